@@ -1,2 +1,3 @@
 pub mod CommentLemmas
 pub mod SinkLemmas
+pub mod RestLemmas

@@ -4,6 +4,7 @@
 mod commented;
 mod commenter;
 mod comments;
+mod continued;
 mod naming;
 mod plain;
 mod put;
@@ -11,4 +12,5 @@ mod put;
 pub use commented::{Commented, Lent};
 pub use commenter::Commenter;
 pub use comments::Comments;
+pub use continued::{Continued, Standing};
 pub use naming::Naming;

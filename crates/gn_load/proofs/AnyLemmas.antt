@@ -1,8 +1,7 @@
 -- A history that was written while a run went on that takes any number of callers.
-use Rattle.std.proofs.Common.{◌≡◌, ◌∙◌, ◌↔◌, ℕ, Bool, true, List, length, reverse, Option, None, Some, Result, Ok, Err, refl, subst, sym}
+use Rattle.std.proofs.Common.{◌≡◌, ◌∙◌, ◌↔◌, ℕ, true, List, length, reverse, Option, None, Some, Result, Ok, Err, refl, subst, sym}
 use Rattle.std.specs.Prelude.{⊤, IfSome, MatchResult}
 use Rattle.std.specs.Io.KnownBytes.{Appends}
-use Rattle.std.specs.declared.net.socket_addr.SocketAddr.{SocketAddr}
 use Rattle.gn_report.specs.declared.unkept.Unkept.{Unkept}
 use Rattle.gn_rules.specs.Answer.{IsLegal}
 use Rattle.gn_rules.specs.Limits.{IsCrew}
@@ -17,7 +16,7 @@ use Rattle.gn_printed.specs.declared.ending.Waiting.{Waiting}
 use Rattle.gn_printed.specs.declared.printed.PrintFault.{PrintFault}
 use Rattle.gn_printed.specs.Finished.{HasFinished}
 use Rattle.gn_scribe.specs.Written.{HasJournalled}
-use Rattle.gn_service.specs.Any.{IsAnyAccount, ran_of_any}
+use Rattle.gn_service.specs.Any.{ran_of_any}
 use Rattle.gn_service.specs.Ran.{Remembered}
 use Rattle.gn_sockets.specs.TcpHalves.{TcpReading, TcpWriting}
 use Rattle.gn_start.specs.Faults.{IsArrivingFault}
@@ -26,7 +25,7 @@ use Rattle.gn_start.specs.declared.fault.RunFault.TheVariants.{BadWorkers, Histo
 use Rattle.gn_threads.specs.declared.halted.Halted.{Halted}
 use Rattle.gn_threads.specs.declared.open_account.OpenAccount.{OpenAccount}
 use Rattle.gn_threads.specs.OpenRuns.{IsOpenFault}
-use Rattle.gn_load.specs.Any.{AppendsAnyPart, IsAnyText, IsJournalledAny}
+use Rattle.gn_load.specs.Any.{AppendsPartBy, IsJournalledBy, IsTextBy}
 use Rattle.gn_load.specs.Journalled.{AppendsLegalPart, HasStoppedWriting, of_print}
 use Rattle.gn_load.specs.Served.{IsServeFault}
 use Rattle.gn_load.specs.declared.serve_fault.ServeFault.{ServeFault}
@@ -36,10 +35,10 @@ use Rattle.gn_load.proofs.JournalLemmas.{all_finished, fault_of_print, never_ful
 use Rattle.gn_load.proofs.ServedLemmas.{is_full, run_is}
 
 -- what is answered where no run began
-pub unbegun : {A : Type 0} (again pings : Bool) (batch : ℕ) (s : Config) (peers : List SocketAddr) (workers : ℕ) (sink : SinkState) (halted : ServeHalted A) (fault : RunFault)
+pub unbegun : {A : Type 0} (holds : OpenAccount TcpReading TcpWriting A → Type 0) (s : Config) (workers : ℕ) (sink : SinkState) (halted : ServeHalted A) (fault : RunFault)
     → (halted.fault ≡ Run fault) × (halted.history ≡ None) × (halted.ran ≡ None) → (fault ≡ BadWorkers) ↔ (¬ IsCrew workers)
-    → (IsCrew workers → IsArrivingFault true 0 workers fault) → IsJournalledAny again pings batch s peers workers sink sink (Err halted)
-unbegun {A} again pings batch s peers workers sink halted fault is crew may =
+    → (IsCrew workers → IsArrivingFault true 0 workers fault) → IsJournalledBy holds s workers sink sink (Err halted)
+unbegun {A} holds s workers sink halted fault is crew may =
     record {
       crew = tt;
       bad_workers = subst (λ f. (f ≡ Run BadWorkers) ↔ (¬ IsCrew workers)) (sym is.0) (run_is fault _ crew);
@@ -51,7 +50,7 @@ unbegun {A} again pings batch s peers workers sink halted fault is crew may =
       account = tt;
       part = subst (λ h. AppendsLegalPart A s h sink.written sink.written) (sym is.1) (nothing_yet A s sink.written);
       full = λ all. subst (λ (h : Option (Unkept (Step A))). IfSome h (λ history. length history.items ≡ s.numbers.steps)) (sym is.1) tt;
-      remembered = subst (λ r. IfSome r (λ _. AppendsAnyPart A again pings batch s peers workers r sink.written sink.written)) (sym is.2) tt;
+      remembered = subst (λ r. IfSome r (λ _. AppendsPartBy A holds s r sink.written sink.written)) (sym is.2) tt;
     }
 
 -- what a run answered that stopped, as far as that is known
@@ -63,12 +62,12 @@ pub record HasStopped {A : Type 0} (s : Config) (workers : ℕ) (steps : List (S
   pub has : IfSome halted.history (λ history. history.items ≡ steps)
   pub legal : IsLegal s (reverse steps)
 
-module _ {A : Type 0} (again pings : Bool) (batch : ℕ) (s : Config) (peers : List SocketAddr) (workers : ℕ) (steps : List (Step A)) (old mid new : SinkState) (halted : Halted A) (after : ServeHalted A)
+module _ {A : Type 0} (holds : OpenAccount TcpReading TcpWriting A → Type 0) (s : Config) (workers : ℕ) (steps : List (Step A)) (old mid new : SinkState) (halted : Halted A) (after : ServeHalted A)
     (run : HasStopped s workers steps halted) (history : after.history ≡ halted.history) (none : after.ran ≡ None) where
   -- what is answered, by its fault and by what was written
   stopped_so : (fault : ServeFault) → after.fault ≡ fault → (fault ≡ Run BadWorkers) ↔ (¬ IsCrew workers) → (came : ℕ) × IsServeFault came workers fault old new
       → (fault ≡ Run HistoryFull → halted.fault ≡ HistoryFull) → AppendsLegalPart A s halted.history old.written new.written
-      → IsJournalledAny again pings batch s peers workers old new (Err after)
+      → IsJournalledBy holds s workers old new (Err after)
   stopped_so fault is bad may all part =
       record {
         crew = tt;
@@ -81,13 +80,13 @@ module _ {A : Type 0} (again pings : Bool) (batch : ℕ) (s : Config) (peers : L
         account = tt;
         part = subst (λ h. AppendsLegalPart A s h old.written new.written) (sym history) part;
         full = λ full. subst (λ (h : Option (Unkept (Step A))). IfSome h (λ history. length history.items ≡ s.numbers.steps)) (sym history) (run.full (all (sym is ∙ full)));
-        remembered = subst (λ r. IfSome r (λ _. AppendsAnyPart A again pings batch s peers workers r old.written new.written)) (sym none) tt;
+        remembered = subst (λ r. IfSome r (λ _. AppendsPartBy A holds s r old.written new.written)) (sym none) tt;
       }
 
   -- by what waited
   pub stopped_as : (waiting : Result (Waiting A) PrintFault) → HasJournalled (header_text History s) steps old mid waiting
       → MatchResult waiting (λ _. after.fault ≡ Run halted.fault) (λ why. after.fault ≡ of_print why) → HasStoppedWriting halted.history mid new waiting
-      → IsJournalledAny again pings batch s peers workers old new (Err after)
+      → IsJournalledBy holds s workers old new (Err after)
   stopped_as (Ok waiting) has is wrote =
       stopped_so (Run halted.fault) is (run_is halted.fault _ run.bad_workers) (run.fault run.crew) (λ full. is_full full)
       (stopped_part s steps old mid new waiting run.legal has halted.history run.has wrote)
@@ -95,10 +94,10 @@ module _ {A : Type 0} (again pings : Bool) (batch : ℕ) (s : Config) (peers : L
       let short = stopped_short s steps old mid new why run.legal has halted.history run.has still in
       stopped_so (of_print why) is (other_than_workers workers why run.crew) (0, fault_of_print 0 workers why old new short.1) (λ full. absurd (never_full why full)) short.0
 
-module _ {A : Type 0} (again pings : Bool) (batch : ℕ) (s : Config) (peers : List SocketAddr) (workers : ℕ) (steps : List (Step A)) (old mid new : SinkState) (account : OpenAccount TcpReading TcpWriting A) (ran : Remembered A)
-    (crew : IsCrew workers) (remembered : ran ≡ ran_of_any account) (answered : IsAnyAccount again pings batch s peers workers account) (is : account.history.items ≡ steps) where
+module _ {A : Type 0} (holds : OpenAccount TcpReading TcpWriting A → Type 0) (s : Config) (workers : ℕ) (steps : List (Step A)) (old mid new : SinkState) (account : OpenAccount TcpReading TcpWriting A) (ran : Remembered A)
+    (crew : IsCrew workers) (remembered : ran ≡ ran_of_any account) (legal : IsLegal s (reverse account.history.items)) (answered : holds account) (is : account.history.items ≡ steps) where
   -- the text is that of the account's history
-  text_of : (text : List ℕ) → text ≡ history_text s steps → IsAnyText A again pings batch s peers workers ran text
+  text_of : (text : List ℕ) → text ≡ history_text s steps → IsTextBy A holds s ran text
   text_of text printed = record {
     account = account;
     remembered = remembered;
@@ -108,7 +107,7 @@ module _ {A : Type 0} (again pings : Bool) (batch : ℕ) (s : Config) (peers : L
 
   -- what is answered where it was written
   pub all_written : (waiting : Result (Waiting A) PrintFault) (done : ⊤) → HasJournalled (header_text History s) steps old mid waiting → HasFinished mid new waiting (Ok done)
-      → IsJournalledAny again pings batch s peers workers old new (Ok (account, ran))
+      → IsJournalledBy holds s workers old new (Ok (account, ran))
   all_written waiting done has finished =
       let whole = all_finished s steps old mid new waiting done has finished in
       record {
@@ -128,7 +127,7 @@ module _ {A : Type 0} (again pings : Bool) (batch : ℕ) (s : Config) (peers : L
   -- what is answered where it wasn't written whole
   pub unwritten : (after : ServeHalted A) (waiting : Result (Waiting A) PrintFault) (why : PrintFault) → HasJournalled (header_text History s) steps old mid waiting
       → HasFinished mid new waiting (Err why) → after.fault ≡ of_print why → (after.history ≡ Some account.history) × (after.ran ≡ Some ran)
-      → IsJournalledAny again pings batch s peers workers old new (Err after)
+      → IsJournalledBy holds s workers old new (Err after)
   unwritten after waiting why has finished fault same =
       let cut = part_finished s steps old mid new waiting why has finished in
       let part : AppendsPart old.written new.written (history_text s account.history.items) =
@@ -142,8 +141,8 @@ module _ {A : Type 0} (again pings : Bool) (batch : ℕ) (s : Config) (peers : L
         report = tt;
         unfailed = tt;
         account = tt;
-        part = subst (λ h. AppendsLegalPart A s h old.written new.written) (sym same.0) (answered.ended.legal, part);
+        part = subst (λ h. AppendsLegalPart A s h old.written new.written) (sym same.0) (legal, part);
         full = λ all. absurd (never_full why (sym fault ∙ all));
-        remembered = subst (λ r. IfSome r (λ _. AppendsAnyPart A again pings batch s peers workers r old.written new.written)) (sym same.1)
+        remembered = subst (λ r. IfSome r (λ _. AppendsPartBy A holds s r old.written new.written)) (sym same.1)
             (ran, refl, history_text s steps, text_of (history_text s steps) refl, cut.0);
       }

@@ -1,9 +1,9 @@
 //! A run over TCP that takes any number of callers, whose history is written while it goes on.
 
-ghost use Rattle.std.specs.Prelude.{◌≡◌, is_some, Some};
+ghost use Rattle.std.specs.Prelude.{◌≡◌, false, is_some, Some};
 ghost use Rattle.gn_rules.specs.Limits.{IsCrew};
 ghost use Rattle.gn_journal.specs.Rings.{name_of};
-ghost use Rattle.gn_load.specs.Any.{IsJournalledAny};
+ghost use Rattle.gn_load.specs.Any.{IsJournalledAfter, IsJournalledAny};
 ghost use Rattle.gn_load.specs.Journalled.{IsFresh, of_print};
 
 use crate::fresh::Fresh;
@@ -15,8 +15,8 @@ use gn_journal::{Journal, Naming};
 use gn_printed::{PrintFault, finish_history};
 use gn_rules::MOST_WORKERS;
 use gn_service::{
-    Any, Host, OpenAccount, Parting, Ran, Routing, RunFault, Serve, TcpReader, TcpWriter, Watch,
-    serve_any,
+    Any, Host, NoPast, OpenAccount, Parting, Past, Ran, Routing, RunFault, Serve, TcpReader,
+    TcpWriter, Watch, serve_past,
 };
 use gn_table_router::{Configuring, TableRouter};
 use std::alloc::{Allocator, Global};
@@ -63,34 +63,64 @@ pub fn serve_any_journalled<
         IsJournalledAny s.accept.again (is_some s.accept.pings) s.batch s.config.now s.peers.now s.workers
         (W.state sink.old) (W.state sink.new) result }
 {
+    serve_past_journalled(rt, alloc, serve, NoPast, sink)
+}
+
+/// Does the same, and goes on with the steps of before, as `serve_past` does: they are the first of the history.
+pub fn serve_past_journalled<
+    's,
+    R: Host,
+    G: Watch + Sync,
+    T: Parting<Global> + Sync,
+    P: Past + Send,
+    W: Sink + Send,
+>(
+    rt: &R,
+    alloc: Global,
+    serve: &Serve<'_, 's, G, Any<'_, T>>,
+    past: P,
+    sink: &mut W,
+) -> Result<(OpenAccount<TcpReader<'s>, TcpWriter>, Ran), ServeHalted>
+    ensures resumed { let s = serve.now in
+        IsJournalledAfter s.accept.again s.config.now s.peers.now s.workers
+        (W.state sink.old) (W.state sink.new) result }
+    ensures any { let s = serve.now in P.recalls past ≡ false →
+        IsJournalledAny s.accept.again (is_some s.accept.pings) s.batch s.config.now s.peers.now s.workers
+        (W.state sink.old) (W.state sink.new) result }
+{
     if serve.workers == 0 || serve.workers > MOST_WORKERS {
         return Err(unbegun(RunFault::BadWorkers));
     }
     let Ok(fresh) = Fresh::of(alloc, serve.config) else {
         return Err(unbegun(RunFault::NoMemory));
     };
-    serve_any_named::<Brand, R, G, T, W>(rt, alloc, serve, fresh, sink)
+    serve_past_named::<Brand, R, G, T, P, W>(rt, alloc, serve, past, fresh, sink)
 }
 
 /// The same over the ring that `N` names.
-fn serve_any_named<
+fn serve_past_named<
     's,
     N: Naming<Global> + Configuring + Send,
     R: Host,
     G: Watch + Sync,
     T: Parting<Global> + Sync,
+    P: Past + Send,
     W: Sink + Send,
 >(
     rt: &R,
     alloc: Global,
     serve: &Serve<'_, 's, G, Any<'_, T>>,
+    past: P,
     fresh: Fresh,
     sink: &mut W,
 ) -> Result<(OpenAccount<TcpReader<'s>, TcpWriter>, Ran), ServeHalted>
     requires named { (N.ring ≡ Some (name_of fresh.producer.end)) × (N.config ≡ Some serve.now.config.now) }
     requires fresh { IsFresh serve.now.config.now fresh }
     requires few { IsCrew serve.now.workers }
-    ensures { let s = serve.now in
+    ensures resumed { let s = serve.now in
+        IsJournalledAfter s.accept.again s.config.now s.peers.now s.workers
+        (W.state sink.old) (W.state sink.new) result }
+    ensures any { let s = serve.now in P.recalls past ≡ false →
         IsJournalledAny s.accept.again (is_some s.accept.pings) s.batch s.config.now s.peers.now s.workers
         (W.state sink.old) (W.state sink.new) result }
 {
@@ -103,14 +133,15 @@ fn serve_any_named<
         of: PhantomData,
     };
     let routing = Routing { core, course };
-    let (answer, begun) = serve_any::<
+    let (answer, begun) = serve_past::<
         TableRouter<Global, Journal<N>, N>,
         Writing<W, N>,
         G,
         T,
+        P,
         Global,
         R,
-    >(rt, alloc, serve, routing);
+    >(rt, alloc, serve, routing, past);
     serve.watch.end();
     let Begun { sink, waiting } = begun;
     match answer {

@@ -1,13 +1,14 @@
 //! What writes bytes, and what puts descriptors together from pieces.
 
+use crate::growths::meet;
 use bytes::Bytes;
-use gn_fixtures::{Call, Failure, Heap, OWN_PONG, growths_of_calls};
+use gn_fixtures::{Call, Failure, Heap, OWN_PONG};
 use gn_frames::{FeedRefusal, Reassembler};
 use gn_payload::{
     HitResult, Pong, Push, WriteRefusal, write_hit, write_pong, write_push, write_query,
 };
 use gn_wire::{Descriptor, Guid, Kind};
-use std::alloc::Allocator;
+use std::alloc::{AllocError, Allocator, Global};
 use std::test::Fail;
 
 /// What is appended to a vector.
@@ -58,6 +59,22 @@ const WRITTEN: [u64; 5] = [2, 1, 1, 1, 1];
 /// The servent of the Push and of the Query Hit.
 const SERVENT: Guid = Guid([0x5e; 16]);
 
+/// The Pong.
+const PONG: Pong = Pong {
+    port: 1,
+    ip: [127, 0, 0, 2],
+    files: 1,
+    kbytes: 2,
+};
+
+/// The Push.
+const PUSH: Push = Push {
+    servent: SERVENT,
+    file: 1,
+    ip: [127, 0, 0, 1],
+    port: 6346,
+};
+
 /// Appends two results, one without extra bytes and one with.
 fn write_two_results<A: Allocator>(out: &mut Vec<u8, A>) -> Result<(), WriteRefusal> {
     let results = [
@@ -77,39 +94,32 @@ fn write_two_results<A: Allocator>(out: &mut Vec<u8, A>) -> Result<(), WriteRefu
     write_hit(6346, [127, 0, 0, 2], 28, &results, b"LIME", SERVENT, out)
 }
 
-impl Written {
-    /// Appends it.
-    fn write<A: Allocator>(self, out: &mut Vec<u8, A>) -> Result<(), WriteRefusal> {
-        match self {
-            Written::OwnPong => {
-                let payload: Bytes<A> = Bytes::from_static(&OWN_PONG[23..]);
-                match Descriptor::new(Guid([0xa1; 16]), Kind::Pong, 1, 0, payload) {
-                    Ok(pong) => Ok(pong.write_to(out)?),
-                    Err(_) => Err(WriteRefusal::TooLong),
-                }
-            }
-            Written::Pong => {
-                let pong = Pong {
-                    port: 1,
-                    ip: [127, 0, 0, 2],
-                    files: 1,
-                    kbytes: 2,
-                };
-                Ok(write_pong(&pong, out)?)
-            }
-            Written::Push => {
-                let push = Push {
-                    servent: SERVENT,
-                    file: 1,
-                    ip: [127, 0, 0, 1],
-                    port: 6346,
-                };
-                Ok(write_push(&push, out)?)
-            }
-            Written::Query => write_query(0, b"x", b"", out),
-            Written::QueryHit => write_two_results(out),
-        }
+/// What came of a write that is out of memory or well.
+fn answer(written: Result<(), AllocError>) -> Result<(), Failure> {
+    match written {
+        Ok(()) => Ok(()),
+        Err(_) => Err(Failure::NoMemory),
     }
+}
+
+/// What came of a write that may be refused.
+fn answer_of(written: Result<(), WriteRefusal>) -> Result<(), Failure> {
+    match written {
+        Ok(()) => Ok(()),
+        Err(WriteRefusal::NoMemory) => Err(Failure::NoMemory),
+        Err(_) => Err(Failure::Other),
+    }
+}
+
+/// Appends the own Pong, as a descriptor.
+fn write_own_pong<A: Allocator>(out: &mut Vec<u8, A>) -> Result<(), Failure> {
+    let payload: Bytes<A> = Bytes::from_static(&OWN_PONG[23..]);
+    let Ok(pong) = Descriptor::new(Guid([0xa1; 16]), Kind::Pong, 1, 0, payload) else {
+        return Err(Failure::Other);
+    };
+    let written = pong.write_to(out);
+    drop(pong);
+    answer(written)
 }
 
 impl<A: Allocator> Call<A> for Writes {
@@ -122,10 +132,12 @@ impl<A: Allocator> Call<A> for Writes {
     }
 
     fn make(&self, out: &mut Vec<u8, A>) -> Result<(), Failure> {
-        match self.written.write(out) {
-            Ok(()) => Ok(()),
-            Err(WriteRefusal::NoMemory) => Err(Failure::NoMemory),
-            Err(_) => Err(Failure::Other),
+        match self.written {
+            Written::OwnPong => write_own_pong(out),
+            Written::Pong => answer(write_pong(&PONG, out)),
+            Written::Push => answer(write_push(&PUSH, out)),
+            Written::Query => answer_of(write_query(0, b"x", b"", out)),
+            Written::QueryHit => answer_of(write_two_results(out)),
         }
     }
 
@@ -138,12 +150,15 @@ impl<A: Allocator> Call<A> for Writes {
     }
 }
 
+/// Whether each meets its growths.
+fn writes_meet<A: Allocator + Copy>(out: Global, heap: &Heap, alloc: A) -> Result<(), Fail> {
+    meet(out, heap, alloc, &WRITES, &WRITTEN)
+}
+
 #[test]
 fn what_is_written(rt: HostRuntime) -> Result<(), Fail> {
     let heap = Heap::new(rt.alloc());
-    let met = growths_of_calls(rt.alloc(), &heap, &heap, &WRITES)?;
-    assert_eq!(rt; met.as_slice(), WRITTEN.as_slice());
-    Ok(())
+    writes_meet(rt.alloc(), &heap, &heap)
 }
 
 /// A stream of a Ping, the same Ping, a Query and two Pings.
@@ -235,10 +250,13 @@ impl<A: Allocator + Copy> Call<A> for Feeds {
     }
 }
 
+/// Whether each piece meets its growths.
+fn pieces_meet<A: Allocator + Copy>(out: Global, heap: &Heap, alloc: A) -> Result<(), Fail> {
+    meet(out, heap, alloc, &PIECES, &FED)
+}
+
 #[test]
 fn what_is_read_and_copied(rt: HostRuntime) -> Result<(), Fail> {
     let heap = Heap::new(rt.alloc());
-    let met = growths_of_calls(rt.alloc(), &heap, &heap, &PIECES)?;
-    assert_eq!(rt; met.as_slice(), FED.as_slice());
-    Ok(())
+    pieces_meet(rt.alloc(), &heap, &heap)
 }

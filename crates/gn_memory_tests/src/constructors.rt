@@ -1,13 +1,14 @@
 //! What is made anew: nothing stands of it where it isn't.
 
-use gn_fixtures::{Call, Failure, Heap, growths_of_calls, usual};
+use crate::growths::meet;
+use gn_fixtures::{Call, Failure, Heap, usual};
 use gn_frames::Reassembler;
 use gn_kept::SeenTable;
 use gn_rules::{Config, FreshRouter};
 use gn_search::PlainRouter;
 use gn_table_router::TableRouter;
 use gn_tables::{Flights, Neighbours, ServentTable};
-use std::alloc::{AllocError, Allocator};
+use std::alloc::{AllocError, Allocator, Global};
 use std::test::Fail;
 
 /// What is made. That it is empty is proved.
@@ -75,10 +76,13 @@ impl<A: Allocator + Copy> Call<A> for Made {
     }
 }
 
+/// Whether each meets its growths.
+fn made_meet<A: Allocator + Copy>(out: Global, heap: &Heap, alloc: A) -> Result<(), Fail> {
+    meet(out, heap, alloc, &MADE, &GROWTHS)
+}
+
 #[test]
 fn what_is_made(rt: HostRuntime) -> Result<(), Fail> {
     let heap = Heap::new(rt.alloc());
-    let met = growths_of_calls(rt.alloc(), &heap, &heap, &MADE)?;
-    assert_eq!(rt; met.as_slice(), GROWTHS.as_slice());
-    Ok(())
+    made_meet(rt.alloc(), &heap, &heap)
 }

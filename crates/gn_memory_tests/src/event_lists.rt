@@ -2,8 +2,8 @@
 
 use crate::steps::read;
 use gn_fixtures::{Heap, Refused, Turn, Turns, growths};
-use gn_rules::{Config, Event, Historian, Receipt, Refusal, run_events};
-use std::alloc::Allocator;
+use gn_rules::{Config, Event, Historian, Receipt, Refusal, Step, run_events};
+use std::alloc::{AllocError, Allocator};
 use std::marker::PhantomData;
 use std::test::Fail;
 
@@ -14,17 +14,27 @@ struct Runs<C> {
     core: PhantomData<C>,
 }
 
+/// Copies of the events of these steps.
+fn events_of<A: Allocator + Copy>(
+    alloc: A,
+    steps: &[Step<A>],
+) -> Result<Vec<Event<A>, A>, AllocError> {
+    let mut events = Vec::new(alloc);
+    for step in steps {
+        events.push(step.event.copy()?)?;
+    }
+    Ok(events)
+}
+
 /// The configuration and the events of a history.
 fn read_events<A: Allocator + Copy>(
     alloc: A,
     history: &str,
 ) -> Result<(Config, Vec<Event<A>, A>), Fail> {
     let (config, steps) = read(alloc, history)?;
-    let mut events = Vec::new(alloc);
-    for step in steps {
-        events.push(step.event)?;
-    }
-    Ok((config, events))
+    let events = events_of(alloc, steps.as_slice());
+    drop(steps);
+    Ok((config, events?))
 }
 
 /// How many of the answers are out of memory.

@@ -9,6 +9,8 @@ mod constructors;
 #[cfg(test)]
 mod event_lists;
 #[cfg(test)]
+mod growths;
+#[cfg(test)]
 mod histories;
 #[cfg(test)]
 mod no_memory_taken;

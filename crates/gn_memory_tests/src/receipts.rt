@@ -69,9 +69,14 @@ impl<A: Allocator + Copy> Call<A> for MakesReceipts {
     }
 }
 
+/// How many growths that meets.
+fn growths_of_receipts<A: Allocator + Copy>(heap: &Heap, alloc: A) -> Result<u64, Fail> {
+    growths_of_call(heap, alloc, &MakesReceipts)
+}
+
 #[test]
 fn receipts_of_a_history(rt: HostRuntime) -> Result<(), Fail> {
     let heap = Heap::new(rt.alloc());
-    assert_eq!(rt; growths_of_call(&heap, &heap, &MakesReceipts)?, GROWTHS);
+    assert_eq!(rt; growths_of_receipts(&heap, &heap)?, GROWTHS);
     Ok(())
 }

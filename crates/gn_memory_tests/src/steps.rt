@@ -62,32 +62,20 @@ fn copy_of<A: Allocator + Copy>(alloc: A, step: &Step<A>) -> Result<Step<A>, All
 
 /// A router, all steps of the history, the one that it is to make, and the descriptor that this one routes.
 #[derive(Drop)]
-pub(crate) struct Subject<A: Allocator + Copy, C> {
-    pub(crate) core: C,
+struct Subject<A: Allocator + Copy, C> {
+    core: C,
     steps: Vec<Step<A>, A>,
-    pub(crate) step: Step<A>,
+    step: Step<A>,
     checked: Option<Checked<A>>,
 }
 
 /// Makes the step of this number, after those before it.
 #[derive(Drop)]
-pub(crate) struct Makes<C> {
+struct Makes<C> {
     asked: Asked,
     history: &'static str,
     number: usize,
     core: PhantomData<C>,
-}
-
-impl<C> Makes<C> {
-    /// The step of this number of a history, made by the call that is asked for.
-    pub(crate) fn new(asked: Asked, history: &'static str, number: usize) -> Self {
-        Makes {
-            asked,
-            history,
-            number,
-            core: PhantomData,
-        }
-    }
 }
 
 /// A refusal as the table of growths counts it.
@@ -109,23 +97,25 @@ fn receipt_of<A: Allocator>(
 }
 
 /// The first steps, so many of them.
-fn before<A: Allocator>(steps: &[Step<A>], number: usize) -> &[Step<A>] {
+pub(crate) fn before<A: Allocator>(steps: &[Step<A>], number: usize) -> &[Step<A>] {
     steps.get(..number).unwrap_or(steps)
 }
 
 /// Whether a router gives the replies of these steps, one after another.
 fn goes_on<A: Allocator + Copy, C: RouterCore<A>>(core: &mut C, steps: &[Step<A>]) -> bool {
     for step in steps {
-        match core.apply(0, &step.event) {
-            Ok(receipt) if is_step_of(step, 0, &receipt) => {}
-            _ => return false,
+        let answer = core.apply(0, &step.event);
+        let is_given = matches!(&answer, Ok(receipt) if is_step_of(step, 0, receipt));
+        drop(answer);
+        if !is_given {
+            return false;
         }
     }
     true
 }
 
 /// A router that has made these steps.
-fn after<A: Allocator + Copy, C: Historian<A> + Drop>(
+pub(crate) fn after<A: Allocator + Copy, C: Historian<A> + Drop>(
     alloc: A,
     config: &Config,
     steps: &[Step<A>],

@@ -3,11 +3,12 @@
 ghost use Rattle.std.specs.Prelude.{◌≡◌, ◌<◌, None};
 ghost use Rattle.std.specs.FinMap as map;
 
-use gn_fixtures::{Call, Failure, Heap, Refused, Turn, Turns, growths, growths_of_calls, ping};
+use crate::growths::meet;
+use gn_fixtures::{Call, Failure, Heap, Refused, Turn, Turns, growths, ping};
 use gn_kept::SeenTable;
 use gn_tables::{Flights, Neighbours, ServentTable};
 use gn_wire::{Descriptor, Guid, Kind};
-use std::alloc::Allocator;
+use std::alloc::{Allocator, Global};
 use std::test::Fail;
 
 /// An ID of one byte, sixteen times.
@@ -158,12 +159,15 @@ impl<A: Allocator + Copy> Call<A> for Remembers {
     }
 }
 
+/// Whether each entry meets its growths.
+fn entries_meet<A: Allocator + Copy>(out: Global, heap: &Heap, alloc: A) -> Result<(), Fail> {
+    meet(out, heap, alloc, &REMEMBERED, &GROWTHS)
+}
+
 #[test]
 fn what_is_remembered(rt: HostRuntime) -> Result<(), Fail> {
     let heap = Heap::new(rt.alloc());
-    let met = growths_of_calls(rt.alloc(), &heap, &heap, &REMEMBERED)?;
-    assert_eq!(rt; met.as_slice(), GROWTHS.as_slice());
-    Ok(())
+    entries_meet(rt.alloc(), &heap, &heap)
 }
 
 /// This turn, where all is right.
@@ -250,10 +254,17 @@ impl<A: Allocator + Copy> Turns<A> for AddsFlight {
     }
 }
 
+/// The growths that adding a neighbour meets, and adding a flight.
+fn growths_of_adding<A: Allocator + Copy>(heap: &Heap, alloc: A) -> Result<[u64; 2], Fail> {
+    Ok([
+        growths(heap, alloc, &AddsNeighbour)?,
+        growths(heap, alloc, &AddsFlight)?,
+    ])
+}
+
 #[test]
 fn what_is_added(rt: HostRuntime) -> Result<(), Fail> {
     let heap = Heap::new(rt.alloc());
-    assert_eq!(rt; growths(&heap, &heap, &AddsNeighbour)?, 1);
-    assert_eq!(rt; growths(&heap, &heap, &AddsFlight)?, 8);
+    assert_eq!(rt; growths_of_adding(&heap, &heap)?, [1, 8]);
     Ok(())
 }

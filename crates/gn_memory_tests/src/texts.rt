@@ -1,11 +1,12 @@
 //! Texts: captures and histories, read, written, replayed and audited.
 
+use crate::growths::meet;
 use gn_capture::{
     Capture, HistorySteps, Line, open_history, read_capture, read_history, write_history,
 };
 use gn_fixtures::{
     Call, FIRST_PING, Failure, Heap, OWN, PING, Refused, Turn, Turns, growths, growths_of_call,
-    growths_of_calls, is_same_step,
+    is_same_step,
 };
 use gn_io::{ReaderSource, Sink, Source, WriterSink};
 use gn_replay::{
@@ -14,7 +15,7 @@ use gn_replay::{
 use gn_rules::{Config, Legality, Numbers, Step};
 use gn_table_router::TableRouter;
 use gn_text::{CaptureRefusal, NumberedLine, NumberedLines, fields_into, read_header};
-use std::alloc::Allocator;
+use std::alloc::{Allocator, Global};
 use std::test::Fail;
 
 /// Two connect, one sends a Ping, and it is routed.
@@ -311,13 +312,21 @@ fn growths_of_steps<A: Allocator + Copy>(heap: &Heap, alloc: A) -> Result<[u64; 
     Ok(met)
 }
 
+/// Whether each text and each step meets its growths.
+fn texts_meet<A: Allocator + Copy>(out: Global, heap: &Heap, alloc: A) -> Result<(), Fail> {
+    meet(out, heap, alloc, &TEXTS, &GROWTHS)?;
+    let met = growths_of_steps(heap, alloc)?;
+    if met == STEPS {
+        Ok(())
+    } else {
+        Err(Fail::new(format_args!("{met:?}")))
+    }
+}
+
 #[test]
 fn what_is_read_and_written(rt: HostRuntime) -> Result<(), Fail> {
     let heap = Heap::new(rt.alloc());
-    let met = growths_of_calls(rt.alloc(), &heap, &heap, &TEXTS)?;
-    assert_eq!(rt; met.as_slice(), GROWTHS.as_slice());
-    assert_eq!(rt; growths_of_steps(&heap, &heap)?, STEPS);
-    Ok(())
+    texts_meet(rt.alloc(), &heap, &heap)
 }
 
 /// What goes from a source to a sink. An audit has what it is to find.
@@ -494,12 +503,23 @@ fn apart_and_shared<A: Allocator + Copy, B: Allocator + Copy>(
     Ok((apart, growths_of_row(heap, alloc, row, alloc, true)?))
 }
 
+/// Whether each command meets its growths. An `Err` names the first that doesn't.
+fn commands_meet<A: Allocator + Copy, B: Allocator + Copy>(
+    heap: &Heap,
+    alloc: A,
+    rich: B,
+) -> Result<(), Fail> {
+    for (number, row) in COMMANDS.iter().copied().enumerate() {
+        let met = apart_and_shared(heap, alloc, rich, row)?;
+        if met != (row.3, row.4) {
+            return Err(Fail::new(format_args!("command {number}: {met:?}")));
+        }
+    }
+    Ok(())
+}
+
 #[test]
 fn what_is_replayed_and_audited(rt: HostRuntime) -> Result<(), Fail> {
     let heap = Heap::new(rt.alloc());
-    for (number, row) in COMMANDS.iter().copied().enumerate() {
-        let met = apart_and_shared(&heap, &heap, rt.alloc(), row)?;
-        assert_eq!(rt; met, (row.3, row.4), "command {number}");
-    }
-    Ok(())
+    commands_meet(&heap, &heap, rt.alloc())
 }

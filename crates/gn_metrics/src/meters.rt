@@ -15,6 +15,8 @@ pub struct Meters {
     /// How often the counts of the history were begun and done to be written: an odd number while they are.
     turns: AtomicU64,
     counts: [AtomicU32; COUNTERS],
+    /// The counts of the history that the run goes on with.
+    before: [AtomicU32; COUNTERS],
     bytes: AtomicU64,
     made: AtomicU64,
     links: AtomicU64,
@@ -39,6 +41,7 @@ impl Meters {
         Meters {
             turns: AtomicU64::new(0),
             counts: array::from_fn(|_| AtomicU32::new(0)),
+            before: array::from_fn(|_| AtomicU32::new(0)),
             bytes: AtomicU64::new(0),
             made: AtomicU64::new(0),
             links: AtomicU64::new(0),
@@ -57,7 +60,17 @@ impl Meters {
         self.links.fetch_add(1, Ordering::SeqCst);
     }
 
-    /// So much was counted of the history by now. One thread says so.
+    /// The run goes on with a history of which so much was counted, and of whose steps so many were made by threads. It is said before anything
+    /// is written.
+    pub fn go_on(&self, counts: &[u32; COUNTERS], made: u64) {
+        // before the counts, so that no look sees more steps counted than were made
+        self.made.fetch_add(made, Ordering::SeqCst);
+        for place in 0..COUNTERS {
+            self.before[place].store(counts[place], Ordering::SeqCst);
+        }
+    }
+
+    /// So much was counted of what is written by now. One thread says so.
     pub fn put(&self, counts: &[u32; COUNTERS], bytes: u64) {
         self.turns.fetch_add(1, Ordering::SeqCst);
         for place in 0..COUNTERS {
@@ -67,13 +80,19 @@ impl Meters {
         self.turns.fetch_add(1, Ordering::SeqCst);
     }
 
+    /// The count at this place, of what was written and of the history before it.
+    fn count(&self, place: usize) -> u32 {
+        let (Some(count), Some(before)) = (self.counts.get(place), self.before.get(place)) else {
+            return 0;
+        };
+        let count = count.load(Ordering::SeqCst);
+        count.saturating_add(before.load(Ordering::SeqCst))
+    }
+
     /// What stands there, whoever comes between.
     fn seen(&self) -> Look {
         Look {
-            counts: array::from_fn(|place: usize| match self.counts.get(place) {
-                Some(count) => count.load(Ordering::SeqCst),
-                None => 0,
-            }),
+            counts: array::from_fn(|place: usize| self.count(place)),
             bytes: self.bytes.load(Ordering::SeqCst),
             made: self.made.load(Ordering::SeqCst),
             links: self.links.load(Ordering::SeqCst),

@@ -1,11 +1,13 @@
 -- What a serve answers, from what the run answered.
-use Rattle.std.proofs.Common.{◌≡◌, ◌+◌, ℕ, Bool, false, true, List, [], length, IfErr, OnOk, Option, None, Some, Result, Ok, Err, refl, sym, subst, is_some}
+use Rattle.std.proofs.Common.{◌≡◌, ◌+◌, ℕ, Bool, false, true, List, [], length, IfErr, OnOk, Option, None, Some, Result, Ok, Err, refl, sym, subst, is_some, not, ◌&&◌}
 use Rattle.std.specs.Prelude.{IfSome}
 use Rattle.std.specs.Result.{IsErrAnd}
 use Rattle.std.specs.declared.alloc.Global.{Global}
 use Rattle.std.specs.declared.net.socket_addr.SocketAddr.{SocketAddr}
 use Rattle.std.proofs.lemmas.Result.{IfErr-weaker}
+use Rattle.gn_comments.proofs.RestLemmas.{nothing_left, nothing_rested}
 use Rattle.gn_comments.proofs.SinkLemmas.{nothing_both, nothing_said}
+use Rattle.gn_comments.specs.Rests.{HasWrittenRest, with_all}
 use Rattle.gn_comments.specs.Sinks.{HasWrittenBoth, without_comments}
 use Rattle.gn_io.specs.Streams.{NoWriteFailed, SinkState}
 use Rattle.gn_rules.specs.Limits.{IsCrew}
@@ -17,8 +19,8 @@ use Rattle.gn_load.specs.declared.serve_fault.ServeFault.{ServeFault}
 use Rattle.gn_load.specs.declared.serve_fault.ServeFault.TheVariants.{Run}
 use Rattle.gn_start.specs.Faults.{IsArrivingFault}
 use Rattle.gn_start.specs.declared.fault.RunFault.{RunFault}
-use Rattle.gn_program.specs.Commands.{AppendsAsked, AppendsAskedPart, IsBeside, IsServeAnswer, IsServing}
-use Rattle.gn_program.specs.Limits.{calls_again}
+use Rattle.gn_program.specs.Commands.{AppendsAsked, AppendsAskedPart, IsBeside, IsRestBeside, IsServeAnswer, IsServing, IsWritten}
+use Rattle.gn_program.specs.Limits.{calls_again, goes_on}
 use Rattle.gn_program.specs.Peers.{AreAt}
 use Rattle.gn_service.specs.Ran.{Remembered}
 use Rattle.gn_words.specs.ServeOptions.{AskedServe}
@@ -28,7 +30,40 @@ pub beside_itself : (has : Bool) (sink : SinkState) → IsBeside has sink sink s
 beside_itself false sink = refl
 beside_itself true sink = ([], sym (nothing_said sink), nothing_both sink)
 
+-- so whether or not it is a rest
+pub written_itself : (goes has : Bool) (sink : SinkState) → IsWritten goes has sink sink sink
+written_itself false has sink = beside_itself has sink
+written_itself true has sink = record {
+  bare = sink;
+  text = [];
+  comments = [];
+  rest = nothing_rested sink;
+  whole = sym (nothing_left sink);
+  beside = sym (nothing_said sink);
+  both = nothing_both sink;
+}
+
 module _ (J : SinkState → SinkState → Type 0) where
+  -- what holds of a sink to which a rest was written, with all of the text
+  pub as_rest : (begun old first mid new : SinkState) (text : List ℕ) → old ≡ begun → first ≡ begun → mid ≡ new → HasWrittenRest begun mid text → J first (with_all begun mid text)
+      → (text : List ℕ) × HasWrittenRest old new text × J old (with_all old new text)
+  as_rest begun old first mid new text e₀ e₁ e₂ rest ran = (
+    text,
+    subst (λ old. HasWrittenRest old new text) (sym e₀) (subst (λ new. HasWrittenRest begun new text) e₂ rest),
+    subst (λ old. J old (with_all old new text)) (sym e₀) (subst (λ new. J begun (with_all begun new text)) e₂ (subst (λ first. J first (with_all begun mid text)) e₁ ran)),
+  )
+
+  -- and comments beside it
+  pub rest_beside : (old new : SinkState) (comments : List ℕ) → HasWrittenBoth old new comments
+      → (text : List ℕ) × HasWrittenRest old (without_comments old new comments) text × J old (with_all old (without_comments old new comments) text)
+      → (all : SinkState) × IsRestBeside old all new × J old all
+  rest_beside old new comments both ran =
+      let bare = without_comments old new comments in (
+        with_all old bare ran.0,
+        record { bare = bare; text = ran.0; comments = comments; rest = ran.1; whole = refl; beside = refl; both = both },
+        ran.2,
+      )
+
   -- what holds of a sink without its comments, which a text was written to
   pub as_commented : (begun old first mid new : SinkState) (text : List ℕ) → old ≡ begun → first ≡ begun → mid ≡ new → HasWrittenBoth begun mid text → J first (without_comments begun mid text)
       → (text : List ℕ) × HasWrittenBoth old new text × J old (without_comments old new text)
@@ -44,6 +79,39 @@ module _ (J : SinkState → SinkState → Type 0) where
   is_beside true old new is ran = (without_comments old new ran.0, (ran.0, refl, ran.1), ran.2)
   is_beside false old new is ran = cc
 
+-- a serve that goes on with a history is one of any number of callers
+none_of : (resumes : Bool) (accept : Option ℕ) → (resumes && not (is_some accept)) ≡ true → accept ≡ None
+none_of true None is = refl
+none_of true (Some accept) is = absurd (cc is)
+none_of false accept is = absurd (cc is)
+
+pub goes_on_any : (serving : AskedServe) → goes_on serving ≡ true → serving.accept ≡ None
+goes_on_any serving is = none_of serving.resumes serving.accept is
+
+module _ (J : Bool → Option ℕ → SinkState → Type 0) where
+  -- what holds of a router that goes on with a history
+  pub went_on : (goes has : Bool) (accept : Option ℕ) (old new : SinkState) → goes ≡ true → accept ≡ None → (all : SinkState) × IsRestBeside old all new × J true None all
+      → (all : SinkState) × IsWritten goes has old all new × J goes accept all
+  went_on true has None old new is none ran = ran
+  went_on true has (Some accept) old new is none ran = absurd (cc none)
+  went_on false has accept old new is none ran = absurd (cc is)
+
+  -- and of one that doesn't
+  pub went_anew : (goes has : Bool) (accept : Option ℕ) (old new : SinkState) → goes ≡ false → (bare : SinkState) × IsBeside has old bare new × J false accept bare
+      → (all : SinkState) × IsWritten goes has old all new × J goes accept all
+  went_anew false has accept old new is ran = ran
+  went_anew true has accept old new is ran = absurd (cc is)
+
+module _ (J : SinkState → SinkState → Type 0) where
+  -- what holds of a sink to which a rest was written with comments
+  pub rest_commented : (begun old first last new : SinkState) (comments : List ℕ) → old ≡ begun → first ≡ begun → last ≡ without_comments begun new comments → HasWrittenBoth begun new comments
+      → (text : List ℕ) × HasWrittenRest first last text × J first (with_all first last text)
+      → (all : SinkState) × IsRestBeside old all new × J old all
+  rest_commented begun old first last new comments e₀ e₁ e₂ both ran =
+      let at_first = subst (λ f. (text : List ℕ) × HasWrittenRest f last text × J f (with_all f last text)) e₁ ran in
+      let at_last = subst (λ l. (text : List ℕ) × HasWrittenRest begun l text × J begun (with_all begun l text)) e₂ at_first in
+      subst (λ o. (all : SinkState) × IsRestBeside o all new × J o all) (sym e₀) (rest_beside J begun new comments both at_last)
+
 -- a fault where the number of workers is one that a run may have
 known : (peers : ℕ) (accept : Option ℕ) (workers : ℕ) (sink sink_new : SinkState) (answer : Result (Unit {0}) ServeFault) → IsCrew workers
     → IfErr answer (λ fault. IsCrew workers → IsTakenFault peers accept workers fault sink sink_new) → IfErr answer (λ fault. IsTakenFault peers accept workers fault sink sink_new)
@@ -52,12 +120,12 @@ known peers accept workers sink sink_new (Err e) within fault = fault within
 
 -- the text of a run that is remembered was written, over links that are called at the peers' addresses
 pub asked : (serving : AskedServe) (settings : Config) (called : List SocketAddr) (ran : Remembered Global) (old new : Option (List ℕ))
-    → AreAt serving.peers called → AppendsTaken Global (calls_again serving) (is_some serving.ping) serving.batch settings called serving.accept serving.workers ran old new → AppendsAsked serving settings (Some ran) old new
+    → AreAt serving.peers called → AppendsTaken Global (goes_on serving) (calls_again serving) (is_some serving.ping) serving.batch settings called serving.accept serving.workers ran old new → AppendsAsked serving settings (Some ran) old new
 asked serving settings called ran old new at has = (called, at, ran, refl, has)
 
 -- so was a prefix of it
 asked_part : (serving : AskedServe) (settings : Config) (called : List SocketAddr) (remembered : Option (Remembered Global)) (old new : Option (List ℕ)) → AreAt serving.peers called
-    → IfSome remembered (λ _. AppendsTakenPart Global (calls_again serving) (is_some serving.ping) serving.batch settings called serving.accept serving.workers remembered old new) → IfSome remembered (λ _. AppendsAskedPart serving settings remembered old new)
+    → IfSome remembered (λ _. AppendsTakenPart Global (goes_on serving) (calls_again serving) (is_some serving.ping) serving.batch settings called serving.accept serving.workers remembered old new) → IfSome remembered (λ _. AppendsAskedPart serving settings remembered old new)
 asked_part serving settings called None old new at has = tt
 asked_part serving settings called (Some ran) old new at has = (called, at, has)
 
@@ -66,7 +134,7 @@ pub answered : (serving : AskedServe) (settings : Config) (called : List SocketA
     → IsServing serving settings → AreAt serving.peers called → length called ≡ length serving.peers → IsCrew serving.workers → OnOk answer (NoWriteFailed sink sink_new)
     → OnOk answer (AppendsAsked serving settings remembered sink.written sink_new.written)
     → IfErr answer (λ _. AppendsSomeLegalPart Global settings sink.written sink_new.written)
-    → IfErr answer (λ _. IfSome remembered (λ _. AppendsTakenPart Global (calls_again serving) (is_some serving.ping) serving.batch settings called serving.accept serving.workers remembered sink.written sink_new.written))
+    → IfErr answer (λ _. IfSome remembered (λ _. AppendsTakenPart Global (goes_on serving) (calls_again serving) (is_some serving.ping) serving.batch settings called serving.accept serving.workers remembered sink.written sink_new.written))
     → IfErr answer (λ fault. IsCrew serving.workers → IsTakenFault (length called) serving.accept serving.workers fault sink sink_new)
     → IsServeAnswer serving sink sink_new answer remembered
 answered serving settings called remembered sink sink_new answer configured at many within unfailed written stopped part fault =
@@ -85,7 +153,7 @@ answered serving settings called remembered sink sink_new answer configured at m
 pub failed : (serving : AskedServe) (settings : Config) (called : List SocketAddr) (remembered : Option (Remembered Global)) (sink sink_new : SinkState) (answer : Result (Unit {0}) ServeFault) (fault : ServeFault)
     → IsServing serving settings → AreAt serving.peers called → length called ≡ length serving.peers → IsCrew serving.workers → IsErrAnd answer (λ e. e ≡ fault)
     → AppendsSomeLegalPart Global settings sink.written sink_new.written
-    → IfSome remembered (λ _. AppendsTakenPart Global (calls_again serving) (is_some serving.ping) serving.batch settings called serving.accept serving.workers remembered sink.written sink_new.written)
+    → IfSome remembered (λ _. AppendsTakenPart Global (goes_on serving) (calls_again serving) (is_some serving.ping) serving.batch settings called serving.accept serving.workers remembered sink.written sink_new.written)
     → (IsCrew serving.workers → IsTakenFault (length called) serving.accept serving.workers fault sink sink_new)
     → IsServeAnswer serving sink sink_new answer remembered
 failed serving settings called remembered sink sink_new (Ok done) fault configured at many within is stopped part one = absurd is

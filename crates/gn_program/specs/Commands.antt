@@ -5,6 +5,7 @@ use Rattle.std.specs.declared.alloc.Global.{Global}
 use Rattle.std.specs.declared.net.socket_addr.SocketAddr.{SocketAddr}
 use Rattle.clap.specs.declared.error.kind.ErrorKind.{ErrorKind}
 use Rattle.clap.specs.declared.error.kind.ErrorKind.TheVariants.{DisplayHelp, DisplayVersion, OutOfMemory}
+use Rattle.gn_comments.specs.Rests.{HasWrittenRest, with_all}
 use Rattle.gn_comments.specs.Sinks.{HasWrittenBoth, without_comments}
 use Rattle.gn_replay.specs.Faults.{IsAnswerOn, IsAuditOn}
 use Rattle.gn_replay.specs.declared.fault.ReplayFault.{ReplayFault}
@@ -27,7 +28,7 @@ use Rattle.gn_load.specs.Loads.{AppendsLoad, load_of}
 use Rattle.gn_load.specs.declared.fault.LoadFault.{LoadFault}
 use Rattle.gn_load.specs.Journalled.{AppendsSomeLegalPart}
 use Rattle.gn_load.specs.Any.{AppendsTaken, AppendsTakenPart, IsTakenFault}
-use Rattle.gn_program.specs.Limits.{calls_again}
+use Rattle.gn_program.specs.Limits.{calls_again, goes_on}
 use Rattle.gn_program.specs.Peers.{AreAt}
 use Rattle.gn_service.specs.Ran.{Remembered}
 use Rattle.gn_load.specs.declared.serve_fault.ServeFault.{ServeFault}
@@ -134,17 +135,17 @@ IsServing serving settings =
 -- a run with so many workers is remembered, which writes at most so many packets to a link at once: over links to the peers of the words,
 -- which are called, and to so many that call; or, where any number may call, one whose first links go to those peers, in order, as far as
 -- there are links, whose others called, or go to those peers where these are called again, and whose own servent sends Pings where that is
--- asked for. And known bytes grew by the text of its history
+-- asked for; of one that goes on with a history `IsResumedAccount` alone is said. And known bytes grew by the text of its history
 abbrev pub AppendsAsked : AskedServe → Config → Option (Remembered Global) → Option (List ℕ) → Option (List ℕ) → Type 0
 AppendsAsked serving settings remembered old new =
     (called : List SocketAddr) × AreAt serving.peers called × (ran : Remembered Global) × (remembered ≡ Some ran)
-    × AppendsTaken Global (calls_again serving) (is_some serving.ping) serving.batch settings called serving.accept serving.workers ran old new
+    × AppendsTaken Global (goes_on serving) (calls_again serving) (is_some serving.ping) serving.batch settings called serving.accept serving.workers ran old new
 
 -- such a run is remembered, and known bytes grew by a prefix of that text
 abbrev pub AppendsAskedPart : AskedServe → Config → Option (Remembered Global) → Option (List ℕ) → Option (List ℕ) → Type 0
 AppendsAskedPart serving settings remembered old new =
     (called : List SocketAddr) × AreAt serving.peers called
-    × AppendsTakenPart Global (calls_again serving) (is_some serving.ping) serving.batch settings called serving.accept serving.workers remembered old new
+    × AppendsTakenPart Global (goes_on serving) (calls_again serving) (is_some serving.ping) serving.batch settings called serving.accept serving.workers remembered old new
 
 -- what serve answers: no write failed, and the history of the run that is remembered was written, a run as `AppendsAsked` says; or it
 -- stopped, and what was written then is a prefix of the text of a history that is legal, and of the run that is remembered, where one is
@@ -170,10 +171,26 @@ abbrev pub IsBeside : Bool → SinkState → SinkState → SinkState → Type 0
 IsBeside false old bare new = bare ≡ new
 IsBeside true old bare new = (text : List ℕ) × (bare ≡ without_comments old new text) × HasWrittenBoth old new text
 
--- what serve answers to a sink without its comments
+-- a sink to which the rest of a text was written, without a first part of it, with comments or none; and how it would stand with all of
+-- that text and no comments
+pub record IsRestBeside (old all new : SinkState) : Type 0 where
+  pub bare : SinkState
+  pub text : List ℕ
+  pub comments : List ℕ
+  pub rest : HasWrittenRest old bare text
+  pub whole : all ≡ with_all old bare text
+  pub beside : bare ≡ without_comments old new comments
+  pub both : HasWrittenBoth old new comments
+
+-- so of a serve that goes on with a history; of another, a sink and how it would stand without comments
+abbrev pub IsWritten : Bool → Bool → SinkState → SinkState → SinkState → Type 0
+IsWritten false has old all new = IsBeside has old all new
+IsWritten true has old all new = IsRestBeside old all new
+
+-- what serve answers to a sink that would stand so with all of its history, and without comments
 abbrev pub HasServed : AskedServe → SinkState → SinkState → Result (Unit {0}) ServeFault → Option (Remembered Global) → Type 0
 HasServed serving sink sink_new answer remembered =
-    (bare : SinkState) × IsBeside (has_comments serving) sink bare sink_new × IsServeAnswer serving sink bare answer remembered
+    (all : SinkState) × IsWritten (goes_on serving) (has_comments serving) sink all sink_new × IsServeAnswer serving sink all answer remembered
 
 -- the status of a replay: 0 where it was done, else 1
 abbrev pub replay_status : Result Exit ReplayFault → ℕ

@@ -1,5 +1,5 @@
 -- How long a serve goes on and waits, as its options say it.
-use Rattle.std.specs.Prelude.{◌≡◌, ◌*◌, ◌||◌, ℕ, Bool, false, true, Option, None, Some, is_some, option_map}
+use Rattle.std.specs.Prelude.{◌≡◌, ◌*◌, ◌||◌, ◌&&◌, ℕ, Bool, false, true, not, Option, None, Some, is_some, option_map}
 use Rattle.std.specs.Duration.{as_nanos}
 use Rattle.std.specs.declared.time.Duration.{Duration}
 use Rattle.gn_service.specs.Stopping.{Stopping}
@@ -26,6 +26,10 @@ is_always Always = true
 -- whether the peers of a serve are
 abbrev pub calls_again : AskedServe → Bool
 calls_again serving = is_always serving.retry
+
+-- whether a serve goes on with the history that standard input gives: one of any number of callers does, where it is asked for
+abbrev pub goes_on : AskedServe → Bool
+goes_on serving = serving.resumes && not (is_some serving.accept)
 
 -- whether anything but its peers stops a serve: its time, its steps, or the end of standard input
 abbrev pub may_stop : AskedServe → Bool

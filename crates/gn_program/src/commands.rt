@@ -106,16 +106,19 @@ fn end_load<F: Sink>(faults: &mut F, answer: Result<(), LoadFault>) -> u8
     }
 }
 
-/// The status after a serve, whose fault is written, and below it what the system said.
+/// The status after a serve, whose fault is written, or what is wrong with the history that it was to go on with, and below it what the
+/// system said.
 fn end_serve<F: Sink>(faults: &mut F, answer: Result<(), ServeFault>, told: Told) -> u8
     ensures { result ≡ serve_status answer }
 {
     match answer {
         Ok(()) => DONE,
         Err(fault) => {
-            let status = write_fault(faults, Fault::from(fault));
+            if !told.is_misfit() {
+                write_fault(faults, Fault::from(fault));
+            }
             let _ = write_text(faults, told);
-            status
+            FAULT
         }
     }
 }
@@ -297,7 +300,8 @@ fn turn_away<W: Sink, F: Sink>(error: Error, writer: &mut W, faults: &mut F) -> 
 ///
 /// A load and a serve alone start threads and wait; a serve alone opens sockets, reads nothing from `reader`, and says
 /// `listening PORT` on a line of `faults` once it can be called. With `--until-eof` it reads the standard input of `rt`, by a
-/// thread that goes on where that hasn't ended; with `--servent random` it takes random bytes of the system.
+/// thread that goes on where that hasn't ended, with `--resume` it reads that to its end first; with `--servent random` it takes
+/// random bytes of the system.
 pub fn command<
     R: Host + Input<Reader = StdinLock<'static>> + RandomSource,
     T: AsStr,

@@ -1,6 +1,7 @@
 //! The command line of `gn` as a function of its words, its input and its outputs.
 #![tactic(auto)]
 
+mod before;
 mod calls;
 mod commands;
 mod detail;
@@ -9,8 +10,12 @@ mod eof;
 mod fault;
 mod head;
 mod leavings;
+mod left_open;
+mod measured;
+mod misfit;
 mod remarks;
 mod reports;
+mod resumes;
 mod scraping;
 mod serves;
 mod text;

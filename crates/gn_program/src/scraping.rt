@@ -1,6 +1,6 @@
 //! A run whose counts are asked for while it goes on.
 
-ghost use Rattle.std.specs.Prelude.{◌≡◌, ◌+◌, ◌≤◌, ◌∷◌, [], Some, is_some, length, unwrap_or};
+ghost use Rattle.std.specs.Prelude.{◌≡◌, ◌+◌, ◌≤◌, ◌∷◌, [], Some, false, is_some, length, unwrap_or};
 ghost use Rattle.gn_io.specs.Streams.{SinkState};
 ghost use Rattle.gn_load.specs.Any.{IsJournalledTaken};
 ghost use Rattle.gn_program.specs.Commands.{IsBeside, has_comments};
@@ -104,8 +104,8 @@ impl<
         ensures ran { let s = self.entry.serve.now in (bare : SinkState)
             × IsBeside (has_comments self.entry.serving.now) (W.state self.entry.lent.sink.now) bare
             (W.state result.1.sink.now)
-            × IsJournalledTaken s.accept.again (is_some s.accept.pings) s.batch s.config.now s.peers.now s.accept.accept
-            s.workers (W.state self.entry.lent.sink.now) bare result.0 }
+            × IsJournalledTaken false s.accept.again (is_some s.accept.pings) s.batch s.config.now s.peers.now
+            s.accept.accept s.workers (W.state self.entry.lent.sink.now) bare result.0 }
     {
         let Counted {
             rt,
@@ -115,7 +115,7 @@ impl<
             scraped,
             ..
         } = self;
-        let mut metered = Metered::<B, W>::new(lent, scraped.names, scraped.meters);
+        let mut metered = Metered::<B, W>::new(lent, Some(scraped.names), scraped.meters);
         let answer = run(rt, alloc, serve, serving, &mut metered);
         (answer, metered.into_inner())
     }
@@ -144,8 +144,8 @@ fn run_beside<
     ensures here { result.1.sink.ghost_name ≡ lent.entry.sink.ghost_name }
     ensures ran { let s = serve.now in (bare : SinkState)
         × IsBeside (has_comments serving.now) (W.state lent.entry.sink.now) bare (W.state result.1.sink.now)
-        × IsJournalledTaken s.accept.again (is_some s.accept.pings) s.batch s.config.now s.peers.now s.accept.accept
-        s.workers (W.state lent.entry.sink.now) bare result.0 }
+        × IsJournalledTaken false s.accept.again (is_some s.accept.pings) s.batch s.config.now s.peers.now
+        s.accept.accept s.workers (W.state lent.entry.sink.now) bare result.0 }
 {
     let counted = Counted {
         rt,
@@ -170,7 +170,7 @@ fn run_beside<
             ensures ran { let s = counted.entry.serve.now in (bare : SinkState)
                 × IsBeside (has_comments counted.entry.serving.now) (W.state counted.entry.lent.sink.now) bare
                 (W.state result.1.sink.now)
-                × IsJournalledTaken s.accept.again (is_some s.accept.pings) s.batch s.config.now s.peers.now
+                × IsJournalledTaken false s.accept.again (is_some s.accept.pings) s.batch s.config.now s.peers.now
                 s.accept.accept s.workers (W.state counted.entry.lent.sink.now) bare result.0 }
         { counted.run(alloc) },
     )
@@ -189,8 +189,8 @@ pub(crate) fn run_scraped<'s, R: Host, G: Watch + Sync, T: Parting<Global> + Syn
     requires few { unwrap_or serve.now.accept.accept 0 + length serve.now.peers.now ≤ most_links }
     ensures { let s = serve.now in (bare : SinkState)
         × IsBeside (has_comments serving.now) (W.state writer.old) bare (W.state writer.new)
-        × IsJournalledTaken s.accept.again (is_some s.accept.pings) s.batch s.config.now s.peers.now s.accept.accept
-        s.workers (W.state writer.old) bare result }
+        × IsJournalledTaken false s.accept.again (is_some s.accept.pings) s.batch s.config.now s.peers.now
+        s.accept.accept s.workers (W.state writer.old) bare result }
 {
     let (Some(desk), Some(meters)) = (desk, serve.watch.meters()) else {
         return run(rt, alloc, serve, serving, writer);

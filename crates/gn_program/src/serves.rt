@@ -1,14 +1,14 @@
 //! A router that serves, as a command line asks for it.
 
-ghost use Rattle.std.specs.Prelude.{◌≡◌, ◌*◌, ◌+◌, ◌<◌, ◌≤◌, ℕ, List, None, is_some, length, unwrap_or, IfNone, IfOk, IfSome};
+ghost use Rattle.std.specs.Prelude.{◌≡◌, ◌*◌, ◌+◌, ◌<◌, ◌≤◌, ℕ, List, None, false, is_some, length, unwrap_or, IfNone, IfOk, IfSome};
 ghost use Rattle.std.specs.Option.{IsSomeAnd};
 ghost use Rattle.std.specs.Bool.{then_some};
 ghost use Rattle.std.specs.Duration.{as_nanos};
 ghost use Rattle.gn_comments.specs.Sinks.{HasWrittenBoth, without_comments};
 ghost use Rattle.gn_io.specs.Streams.{SinkState};
 ghost use Rattle.gn_load.specs.Any.{IsJournalledTaken};
-ghost use Rattle.gn_program.specs.Commands.{HasServed, IsBeside, IsIdOf, IsServing, has_comments};
-ghost use Rattle.gn_program.specs.Limits.{IsLimit, IsStopOf, calls_again, may_stop, seconds_of};
+ghost use Rattle.gn_program.specs.Commands.{HasServed, IsBeside, IsIdOf, IsServing, IsWritten, has_comments};
+ghost use Rattle.gn_program.specs.Limits.{IsLimit, IsStopOf, calls_again, goes_on, may_stop, seconds_of};
 ghost use Rattle.gn_program.specs.Peers.{AreAt, IsHere};
 ghost use Rattle.gn_rules.specs.Limits.{most_links};
 ghost use Rattle.gn_words.specs.Options.{calls_far};
@@ -19,6 +19,7 @@ use crate::eof::stop_at_eof;
 use crate::leavings::Leavings;
 use crate::remarks::Remarks;
 use crate::reports::{write_account, write_stats, write_stopped};
+use crate::resumes::resume;
 use crate::scraping::{listen_both, run_scraped};
 use crate::text::write_text;
 use crate::told::Told;
@@ -26,6 +27,7 @@ use gn_comments::{Commented, Lent, Naming};
 use gn_io::Sink;
 use gn_links::{LinkFault, Watch};
 use gn_load::{ServeFault, ServeHalted, Taken, Taking, serve_taken};
+use gn_metrics::Desk;
 use gn_report::LinkTally;
 use gn_rules::{Config, Own};
 use gn_service::{Batch, Host, Parting, Pings, Ran, Serve, Serving, Stop, TcpReader, TcpWriter};
@@ -333,8 +335,8 @@ fn run_commented<
     ensures here { result.1.sink.ghost_name ≡ lent.entry.sink.ghost_name }
     ensures ran { let s = serve.now in (text : List ℕ)
         × HasWrittenBoth (W.state lent.entry.sink.now) (W.state result.1.sink.now) text
-        × IsJournalledTaken s.accept.again (is_some s.accept.pings) s.batch s.config.now s.peers.now s.accept.accept
-        s.workers (W.state lent.entry.sink.now)
+        × IsJournalledTaken false s.accept.again (is_some s.accept.pings) s.batch s.config.now s.peers.now
+        s.accept.accept s.workers (W.state lent.entry.sink.now)
         (without_comments (W.state lent.entry.sink.now) (W.state result.1.sink.now) text) result.0 }
 {
     let remarks = Remarks::new(rt, alloc, serve.watch, serve.peers, serving);
@@ -354,8 +356,8 @@ pub(crate) fn run<'s, R: Host, G: Watch + Sync, T: Parting<Global> + Sync, W: Si
     requires few { unwrap_or serve.now.accept.accept 0 + length serve.now.peers.now ≤ most_links }
     ensures { let s = serve.now in (bare : SinkState)
         × IsBeside (has_comments serving.now) (W.state writer.old) bare (W.state writer.new)
-        × IsJournalledTaken s.accept.again (is_some s.accept.pings) s.batch s.config.now s.peers.now s.accept.accept
-        s.workers (W.state writer.old) bare result }
+        × IsJournalledTaken false s.accept.again (is_some s.accept.pings) s.batch s.config.now s.peers.now
+        s.accept.accept s.workers (W.state writer.old) bare result }
 {
     if has_comments(serving) {
         let lent = Lent { sink: writer };
@@ -365,6 +367,42 @@ pub(crate) fn run<'s, R: Host, G: Watch + Sync, T: Parting<Global> + Sync, W: Si
         return answer;
     }
     serve_taken::<_, _, _, _>(rt, alloc, serve, writer)
+}
+
+/// Whether the router goes on with the history that standard input gives.
+fn goes_on(serving: &ServeOptions) -> bool
+    ensures { result ≡ goes_on serving.now }
+{
+    serving.resumes && serving.accept.is_none()
+}
+
+/// Runs the router, and writes its history while it runs, as `resume` does where it goes on with one, or as `run_scraped` does.
+fn run_asked<
+    's,
+    R: Host + Input<Reader = StdinLock<'static>>,
+    G: Watch + Sync,
+    T: Parting<Global> + Sync,
+    W: Sink + Send,
+>(
+    rt: &R,
+    alloc: Global,
+    serve: &Serve<'_, 's, Calls<'_, G>, Taking<'_, T>>,
+    serving: &ServeOptions,
+    writer: &mut W,
+    desk: Option<&Desk>,
+    told: &mut Told,
+) -> Result<(Taken<'s>, Ran), ServeHalted>
+    requires few { unwrap_or serve.now.accept.accept 0 + length serve.now.peers.now ≤ most_links }
+    requires accept { serve.now.accept.accept ≡ serving.now.accept }
+    ensures { let s = serve.now in (all : SinkState)
+        × IsWritten (goes_on serving.now) (has_comments serving.now) (W.state writer.old) all (W.state writer.new)
+        × IsJournalledTaken (goes_on serving.now) s.accept.again (is_some s.accept.pings) s.batch s.config.now
+        s.peers.now s.accept.accept s.workers (W.state writer.old) all result }
+{
+    if goes_on(serving) {
+        return resume(rt, alloc, serve, serving, writer, desk, told);
+    }
+    run_scraped(rt, alloc, serve, serving, writer, desk)
 }
 
 /// Listens, says so with the faults, runs the router, writes its history while it runs, answers who asks for its counts, and then writes what
@@ -408,7 +446,7 @@ pub(crate) fn serve<
         watch: calls,
         batch: batch_of(serving.batch),
     };
-    let answer = run_scraped(rt, alloc, &asked, serving, writer, desk.as_ref());
+    let answer = run_asked(rt, alloc, &asked, serving, writer, desk.as_ref(), told);
     drop(leavings);
     match answer {
         Ok((taken, ran)) => {

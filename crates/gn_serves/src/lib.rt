@@ -30,6 +30,8 @@ mod pings;
 #[cfg(test)]
 mod prompt;
 #[cfg(test)]
+mod resumed;
+#[cfg(test)]
 mod serves;
 #[cfg(test)]
 mod sockets;

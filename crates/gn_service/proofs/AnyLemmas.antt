@@ -8,10 +8,10 @@ use Rattle.gn_sockets.specs.TcpHalves.{TcpReading, TcpWriting}
 use Rattle.gn_start.specs.Faults.{IsArrivingFault}
 use Rattle.gn_start.specs.declared.fault.RunFault.{RunFault}
 use Rattle.gn_start.specs.declared.fault.RunFault.TheVariants.{BadWorkers, HistoryFull}
-use Rattle.gn_threads.specs.OpenRuns.{IsOpenAnswer, IsOpenFault}
+use Rattle.gn_threads.specs.OpenRuns.{IsOpenAnswer, IsOpenFault, IsRecalledAnswer}
 use Rattle.gn_threads.specs.declared.halted.Halted.{Halted}
 use Rattle.gn_threads.specs.declared.open_account.OpenAccount.{OpenAccount}
-use Rattle.gn_service.specs.Any.{IsAnyAccount, IsLinkOf, IsServedToAny, open_account, tcp_views}
+use Rattle.gn_service.specs.Any.{IsAnyAccount, IsLinkOf, IsResumedAccount, IsServedAfter, open_account, tcp_views}
 
 -- the links are numbered from 0 on
 pub from_first : {A : Type 0} (again pings : Bool) (batch : ℕ) (s : Config) (peers : List SocketAddr) (workers : ℕ) (account : OpenAccount TcpReading TcpWriting A)
@@ -23,11 +23,21 @@ from_first again pings batch s peers workers account h =
       may_come = λ k link at. let first : 0 + k ≡ k = omega arith in subst (λ n. IsLinkOf again peers n link.role link.reader.origin) first (h.may_come k link at);
     }
 
+-- so whatever steps were made before
+pub resumed_first : {A : Type 0} (again : Bool) (s : Config) (peers : List SocketAddr) (workers : ℕ) (account : OpenAccount TcpReading TcpWriting A)
+    → IsRecalledAnswer tcp_views (λ origin. origin.0) s workers (λ k role origin. IsLinkOf again peers (0 + k) role origin) account
+    → IsResumedAccount again s peers workers account
+resumed_first again s peers workers account h =
+    record {
+      kept = h.kept;
+      may_come = λ k link at. let first : 0 + k ≡ k = omega arith in subst (λ n. IsLinkOf again peers n link.role link.reader.origin) first (h.may_come k link at);
+    }
+
 -- a run with an account that has failed
-pub failed_at : {A : Type 0} (again pings : Bool) (batch : ℕ) (s : Config) (peers : List SocketAddr) (workers : ℕ) (account : OpenAccount TcpReading TcpWriting A) (after : Halted A) (fault : RunFault)
-    → IsServedToAny again pings batch s peers workers open_account (Ok account) → (after.fault ≡ fault) × (after.history ≡ Some account.history) → ¬ (fault ≡ BadWorkers) → ¬ (fault ≡ HistoryFull)
-    → ((links workers : ℕ) → length peers ≤ links → IsArrivingFault true links workers fault) → IsServedToAny again pings batch s peers workers open_account (Err after)
-failed_at again pings batch s peers workers account after fault served is crew space may =
+pub failed_at : {A : Type 0} (recalls again pings : Bool) (batch : ℕ) (s : Config) (peers : List SocketAddr) (workers : ℕ) (account : OpenAccount TcpReading TcpWriting A) (after : Halted A) (fault : RunFault)
+    → IsServedAfter recalls again pings batch s peers workers open_account (Ok account) → (after.fault ≡ fault) × (after.history ≡ Some account.history) → ¬ (fault ≡ BadWorkers) → ¬ (fault ≡ HistoryFull)
+    → ((links workers : ℕ) → length peers ≤ links → IsArrivingFault true links workers fault) → IsServedAfter recalls again pings batch s peers workers open_account (Err after)
+failed_at recalls again pings batch s peers workers account after fault served is crew space may =
     let at = is.0 in
     let run = served.answered.run in
     record {
@@ -39,21 +49,22 @@ failed_at again pings batch s peers workers account after fault served is crew s
           holds = tt;
           made = tt;
         };
-        kept = subst (λ h. IfSome h (λ history. IsLegal s (reverse history.items))) (sym is.1) served.account.ended.legal;
+        kept = subst (λ h. IfSome h (λ history. IsLegal s (reverse history.items))) (sym is.1) served.resumed.kept.legal;
         full = λ full. absurd (space (sym at ∙ full));
       };
-      account = tt;
+      resumed = tt;
+      account = λ none. tt;
     }
 
 -- a run that stopped and has failed for a call, too
-pub failed_too : {A : Type 0} (again pings : Bool) (batch : ℕ) (s : Config) (peers : List SocketAddr) (workers : ℕ) (halted after : Halted A) (fault : RunFault)
-    → IsServedToAny again pings batch s peers workers open_account (Err halted) → (after.fault ≡ halted.fault) ⊎ ((after.fault ≡ fault) × (¬ (halted.fault ≡ BadWorkers)))
+pub failed_too : {A : Type 0} (recalls again pings : Bool) (batch : ℕ) (s : Config) (peers : List SocketAddr) (workers : ℕ) (halted after : Halted A) (fault : RunFault)
+    → IsServedAfter recalls again pings batch s peers workers open_account (Err halted) → (after.fault ≡ halted.fault) ⊎ ((after.fault ≡ fault) × (¬ (halted.fault ≡ BadWorkers)))
     → after.history ≡ halted.history → ¬ (fault ≡ BadWorkers) → ¬ (fault ≡ HistoryFull)
-    → ((links workers : ℕ) → length peers ≤ links → IsArrivingFault true links workers fault) → IsServedToAny again pings batch s peers workers open_account (Err after)
-failed_too again pings batch s peers workers halted after fault served either same crew space may =
+    → ((links workers : ℕ) → length peers ≤ links → IsArrivingFault true links workers fault) → IsServedAfter recalls again pings batch s peers workers open_account (Err after)
+failed_too recalls again pings batch s peers workers halted after fault served either same crew space may =
     let answered = served.answered in
     let kept = subst (λ h. IfSome h (λ history. IsLegal s (reverse history.items))) (sym same) answered.kept in
-    elim either as (λ _. IsServedToAny again pings batch s peers workers open_account (Err after)) [
+    elim either as (λ _. IsServedAfter recalls again pings batch s peers workers open_account (Err after)) [
       | inl is ↦ record {
         answered = record {
           run = record {
@@ -66,7 +77,8 @@ failed_too again pings batch s peers workers halted after fault served either sa
           kept = kept;
           full = λ all. subst (λ h. IfSome h (λ history. length history.items ≡ s.numbers.steps)) (sym same) (answered.full (sym is ∙ all));
         };
-        account = tt;
+        resumed = tt;
+        account = λ none. tt;
       }
       | inr later ↦ record {
         answered = record {
@@ -80,6 +92,7 @@ failed_too again pings batch s peers workers halted after fault served either sa
           kept = kept;
           full = λ all. absurd (space (sym later.0 ∙ all));
         };
-        account = tt;
+        resumed = tt;
+        account = λ none. tt;
       }
     ]

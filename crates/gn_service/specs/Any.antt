@@ -11,7 +11,7 @@ use Rattle.gn_sockets.specs.declared.origin.TcpOrigin.{TcpOrigin}
 use Rattle.gn_waits.specs.declared.socket.Socket.{Socket}
 use Rattle.gn_start.specs.Over.{views_of}
 use Rattle.gn_threads.specs.Answers.{IsKeptAnswer, halted_views}
-use Rattle.gn_threads.specs.OpenRuns.{IsOpenAnswer, IsOpenFault, known_report}
+use Rattle.gn_threads.specs.OpenRuns.{IsOpenAnswer, IsOpenFault, IsRecalledAnswer, known_report}
 use Rattle.gn_threads.specs.declared.halted.Halted.{Halted}
 use Rattle.gn_threads.specs.declared.open_account.OpenAccount.{OpenAccount}
 use Rattle.gn_service.specs.Ran.{Remembered, account_sockets}
@@ -63,6 +63,19 @@ pub record IsServedToAny {A Q : Type 0} (again pings : Bool) (batch : ℕ) (s : 
     (account_of : Q → OpenAccount TcpReading TcpWriting A) (answer : Result Q (Halted A)) : Type 0 where
   pub answered : IsKeptAnswer s workers (IsOpenFault true workers) (λ _. ⊤) (λ _. ⊤) (λ q. known_report (account_of q)) halted_views answer
   pub account : IfOk answer (λ q. IsAnyAccount again pings batch s peers workers (account_of q))
+
+-- the account of a run that went on with the steps of before: its history is legal, those steps with it, and its links came as those of
+-- any such run
+abbrev pub IsResumedAccount : {A : Type 0} → Bool → Config → List SocketAddr → ℕ → OpenAccount TcpReading TcpWriting A → Type 0
+IsResumedAccount again s peers workers account =
+    IsRecalledAnswer tcp_views (λ origin. origin.0) s workers (IsLinkOf again peers) account
+
+-- what such a run answers, with or without its account; and what it answers as any run, where there were no steps of before
+pub record IsServedAfter {A Q : Type 0} (recalls again pings : Bool) (batch : ℕ) (s : Config) (peers : List SocketAddr) (workers : ℕ)
+    (account_of : Q → OpenAccount TcpReading TcpWriting A) (answer : Result Q (Halted A)) : Type 0 where
+  pub answered : IsKeptAnswer s workers (IsOpenFault true workers) (λ _. ⊤) (λ _. ⊤) (λ q. known_report (account_of q)) halted_views answer
+  pub resumed : IfOk answer (λ q. IsResumedAccount again s peers workers (account_of q))
+  pub account : recalls ≡ false → IfOk answer (λ q. IsAnyAccount again pings batch s peers workers (account_of q))
 
 -- an account by itself
 abbrev pub open_account : {A : Type 0} → OpenAccount TcpReading TcpWriting A → OpenAccount TcpReading TcpWriting A

@@ -4,7 +4,7 @@ ghost use Rattle.std.specs.Prelude.{◌≡◌, ◌<◌, ◌≤◌, [], is_some, 
 ghost use Rattle.gn_rules.specs.Limits.{most_links};
 ghost use Rattle.gn_threads.specs.Courses.{IsLeft};
 ghost use Rattle.gn_threads.specs.OpenRuns.{AreOpenStepsOf};
-ghost use Rattle.gn_service.specs.Any.{IsServedToAny, open_account, ran_of_any, served_open};
+ghost use Rattle.gn_service.specs.Any.{IsServedAfter, IsServedToAny, open_account, ran_of_any, served_open};
 
 use crate::accepting::Accepter;
 use crate::counted::Counted;
@@ -15,6 +15,7 @@ use crate::host::Host;
 use crate::newcomers::Newcomers;
 use crate::owed::Owed;
 use crate::parting::{Parting, Told};
+use crate::past::{NoPast, Past, Recalling};
 use crate::pings::{Pinging, Reminder};
 use crate::ran::Ran;
 use crate::running::watch_and_call;
@@ -42,11 +43,12 @@ fn slots_of(neighbours: u32) -> u32
 
 /// A run over all links that come, by a router of no steps.
 #[derive(Drop)]
-struct Unlimited<'a, 's, C: RouterCore<A>, W, G, T, R, A: Allocator + Copy = Global> {
+struct Unlimited<'a, 's, C: RouterCore<A>, W, G, T, P, R, A: Allocator + Copy = Global> {
     rt: &'a R,
     alloc: A,
     serve: &'a Serve<'a, 's, G, Any<'a, T>>,
     routing: Routing<C, W>,
+    past: P,
     ghost empty: { C.steps routing.core ≡ [] },
 }
 
@@ -57,9 +59,10 @@ impl<
     W: Course<C, A> + Send + Drop,
     G: Watch + Sync,
     T: Parting<A> + Sync,
+    P: Past + Send,
     R: Host,
     A: Allocator + Copy + Send + Sync,
-> Unlimited<'a, 's, C, W, G, T, R, A>
+> Unlimited<'a, 's, C, W, G, T, P, R, A>
 where
     W::Followed: Send + Drop,
 {
@@ -71,8 +74,8 @@ where
         W::Rest,
     )
         ensures served { let s = self.entry.serve.now in
-            IsServedToAny s.accept.again (is_some s.accept.pings) s.batch s.config.now s.peers.now s.workers
-            open_account result.0 }
+            IsServedAfter (P.recalls self.entry.past) s.accept.again (is_some s.accept.pings) s.batch s.config.now
+            s.peers.now s.workers open_account result.0 }
         ensures rest { IsLeft (W.follows self.entry.routing.course) W.leaves result.1 (AreOpenStepsOf result.0) }
     {
         let serving = &self.serve.limits;
@@ -96,8 +99,8 @@ where
         W::Rest,
     )
         ensures served { let s = self.entry.serve.now in
-            IsServedToAny s.accept.again (is_some s.accept.pings) s.batch s.config.now s.peers.now s.workers
-            open_account result.0 }
+            IsServedAfter (P.recalls self.entry.past) s.accept.again (is_some s.accept.pings) s.batch s.config.now
+            s.peers.now s.workers open_account result.0 }
         ensures rest { IsLeft (W.follows self.entry.routing.course) W.leaves result.1 (AreOpenStepsOf result.0) }
     {
         let rt = self.rt;
@@ -121,8 +124,8 @@ where
             || watch_and_call(rt, serving, stops, watch, Some(accepter), Some(reminder)),
             move ||
                 ensures served { let s = self.entry.serve.now in
-                    IsServedToAny s.accept.again (is_some s.accept.pings) s.batch s.config.now s.peers.now s.workers
-                    open_account result.0 }
+                    IsServedAfter (P.recalls self.entry.past) s.accept.again (is_some s.accept.pings) s.batch
+                    s.config.now s.peers.now s.workers open_account result.0 }
                 ensures rest { IsLeft (W.follows self.entry.routing.course) W.leaves result.1 (AreOpenStepsOf result.0) }
             { self.run(stops, doorstep, reminder, signal) },
         );
@@ -141,8 +144,8 @@ where
         W::Rest,
     )
         ensures served { let s = self.entry.serve.now in
-            IsServedToAny s.accept.again (is_some s.accept.pings) s.batch s.config.now s.peers.now s.workers
-            open_account result.0 }
+            IsServedAfter (P.recalls self.entry.past) s.accept.again (is_some s.accept.pings) s.batch s.config.now
+            s.peers.now s.workers open_account result.0 }
         ensures rest { IsLeft (W.follows self.entry.routing.course) W.leaves result.1 (AreOpenStepsOf result.0) }
     {
         let calls = self.serve.peers.len();
@@ -167,8 +170,8 @@ where
         W::Rest,
     )
         ensures served { let s = self.entry.serve.now in
-            IsServedToAny s.accept.again (is_some s.accept.pings) s.batch s.config.now s.peers.now s.workers
-            open_account result.0 }
+            IsServedAfter (P.recalls self.entry.past) s.accept.again (is_some s.accept.pings) s.batch s.config.now
+            s.peers.now s.workers open_account result.0 }
         ensures rest { IsLeft (W.follows self.entry.routing.course) W.leaves result.1 (AreOpenStepsOf result.0) }
     {
         let Unlimited {
@@ -176,10 +179,12 @@ where
             alloc,
             serve,
             routing,
+            past,
         } = self;
         let (watch, numbers) = (serve.watch, &serve.config.numbers);
         let gate = Counted::new(rt, watch, stops);
         let incoming = Newcomers {
+            recalling: Recalling::new(past, numbers.steps),
             entrance: Entrance::new(rt, rt.alloc(), serve.listener, stops),
             doorstep,
             called: serve.peers,
@@ -188,11 +193,7 @@ where
             serving: serve.limits,
             watch,
             gate: &gate,
-            pinging: Pinging {
-                pings: serve.accept.pings,
-                reminder,
-                sent: 0,
-            },
+            pinging: Pinging::new(serve.accept.pings, reminder),
         };
         let asked = Asked {
             config: serve.config,
@@ -249,11 +250,47 @@ where
         (λ done. done.0.history.items ≡ steps)
         (λ halted. IfSome halted.history (λ history. history.items ≡ steps))) }
 {
+    serve_past(rt, alloc, serve, routing, NoPast)
+}
+
+/// Runs a router as `serve_any` does, of no steps, but for those that it goes on with: the house makes them again, in order, before any
+/// link comes, and they are the first steps of the run.
+pub fn serve_past<
+    's,
+    C: RouterCore<A> + Drop + Send,
+    W: Course<C, A> + Send + Drop,
+    G: Watch + Sync,
+    T: Parting<A> + Sync,
+    P: Past + Send,
+    A: Allocator + Copy + Send + Sync,
+    R: Host,
+>(
+    rt: &R,
+    alloc: A,
+    serve: &Serve<'_, 's, G, Any<'_, T>>,
+    routing: Routing<C, W>,
+    past: P,
+) -> (
+    Result<(OpenAccount<TcpReader<'s>, TcpWriter, A>, Ran<A>), Halted<A>>,
+    W::Rest,
+)
+where
+    W::Followed: Send + Drop,
+    requires empty { C.steps routing.core ≡ [] }
+    ensures served { let s = serve.now in
+        IsServedAfter (P.recalls past) s.accept.again (is_some s.accept.pings) s.batch s.config.now s.peers.now
+        s.workers served_open result.0 }
+    ensures ran { IfOk result.0 (λ done. done.1 ≡ ran_of_any done.0) }
+    ensures rest { IsLeft (W.follows routing.course) W.leaves result.1 (λ steps. MatchResult result.0
+        (λ done. done.0.history.items ≡ steps)
+        (λ halted. IfSome halted.history (λ history. history.items ≡ steps))) }
+{
     let run = Unlimited {
         rt,
         alloc,
         serve,
         routing,
+        past,
     };
     let (answer, rest) = run.watched();
     match answer {

@@ -22,6 +22,14 @@ impl<'a, G, R, A: Allocator> Counted<'a, G, R, A> {
         Counted { rt, watch, stops }
     }
 
+    /// The house has made a step of before again.
+    pub(crate) fn recalled(&self) {
+        if let Some(owed) = &self.stops.owed {
+            owed.recalled();
+            self.stops.look();
+        }
+    }
+
     /// The own servent sends its neighbours a Ping next.
     pub(crate) fn pings(&self) {
         if let Some(owed) = &self.stops.owed {

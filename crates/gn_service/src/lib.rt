@@ -17,6 +17,7 @@ mod live;
 mod newcomers;
 mod owed;
 mod parting;
+mod past;
 mod peers;
 mod pings;
 mod ran;
@@ -29,7 +30,7 @@ mod stop;
 mod stops;
 mod tallies;
 
-pub use any::serve_any;
+pub use any::{serve_any, serve_past};
 pub use gn_bodies::{
     BodyFault, Caller, ReaderDone, ReaderEnd, ReaderTask, WorkerDone, WorkerTask, WriterDone,
     WriterEnd, WriterTask, reader_body, worker_body, writer_body,
@@ -41,6 +42,7 @@ pub use gn_links::{
 };
 pub use gn_report::{Account, LinkAccount, LinkReport, LinkTally, Report};
 pub use gn_shake::Role;
+pub use gn_start::Recall;
 pub use gn_tcp::{TcpLink, TcpOrigin, TcpReader, TcpWriter, listen};
 pub use gn_threads::{
     Arrivals, Asked, Coming, Course, Halted, InMemory, OpenAccount, Routing, RunFault, Stopped,
@@ -48,6 +50,7 @@ pub use gn_threads::{
 };
 pub use host::Host;
 pub use parting::Parting;
+pub use past::{NoPast, Past};
 pub use pings::Pings;
 pub use ran::Ran;
 pub use serve::{serve_by, serve_kept, serve_on};

@@ -10,19 +10,22 @@ ghost use Rattle.gn_service.specs.Newcomers.{IsNewOf};
 use crate::counted::Counted;
 use crate::doorstep::{Doorstep, Guest};
 use crate::entrance::Entrance;
+use crate::past::{Past, Recalling};
 use crate::pings::Pinging;
 use crate::serving::Serving;
 use gn_links::{Link, Place, Watch};
 use gn_room::Waiting;
-use gn_start::{Coming, Incoming, NewLink, RunFault};
+use gn_rules::{Receipt, Refusal};
+use gn_start::{Coming, Incoming, NewLink, Recall, RunFault};
 use gn_tcp::{Socket, TcpLink, TcpOrigin, TcpReader, TcpWriter};
 use std::alloc::{Allocator, Global};
 use std::net::{Net, SocketAddr, TcpListener, TcpStream};
 use std::sync::Wait;
 use std::time::Clock;
 
-/// The peers that are called, and the doorstep on which the others come.
-pub(crate) struct Newcomers<'a, 's, N, G, A: Allocator = Global> {
+/// The steps of before, the peers that are called, and the doorstep on which the others come.
+pub(crate) struct Newcomers<'a, 's, N, G, P: Drop, A: Allocator = Global> {
+    pub recalling: Recalling<P>,
     pub entrance: Entrance<'a, N, A>,
     pub doorstep: &'a Doorstep<'a>,
     pub called: &'a [SocketAddr],
@@ -37,10 +40,11 @@ pub(crate) struct Newcomers<'a, 's, N, G, A: Allocator = Global> {
     pub pinging: Pinging<'a>,
 }
 
-impl<'a, 's, N, G, A: Allocator> Drop for Newcomers<'a, 's, N, G, A> {
+impl<'a, 's, N, G, P: Drop, A: Allocator> Drop for Newcomers<'a, 's, N, G, P, A> {
     /// A run lets them go once it is over: who accepts and who watches end, too.
     fn drop(self) {
         let Newcomers {
+            recalling,
             entrance,
             doorstep,
             called: _,
@@ -51,6 +55,7 @@ impl<'a, 's, N, G, A: Allocator> Drop for Newcomers<'a, 's, N, G, A> {
             gate: _,
             pinging: _,
         } = self;
+        drop(recalling);
         entrance.stops.close_listener();
         entrance.stops.end();
         doorstep.release();
@@ -62,8 +67,9 @@ impl<
     's,
     N: Wait + Net<Listener = TcpListener, Stream = TcpStream> + Clock,
     G: Watch,
+    P: Drop,
     A: Allocator,
-> Newcomers<'a, 's, N, G, A> {
+> Newcomers<'a, 's, N, G, P, A> {
     /// The guest, as this link, which ends with the run. The fault is out of memory.
     fn registered(&self, link: u32, guest: Guest) -> Result<TcpLink<'static>, RunFault>
         ensures found { IfOk result (λ found. (found.role ≡ Accepting)
@@ -176,8 +182,9 @@ impl<
     's,
     N: Wait + Net<Listener = TcpListener, Stream = TcpStream> + Clock,
     G: Watch,
+    P: Past,
     A: Allocator,
-> Incoming for Newcomers<'a, 's, N, G, A> {
+> Incoming for Newcomers<'a, 's, N, G, P, A> {
     ghost use Rattle.std.specs.Prelude.{◌+◌, ⊤, false, is_some, true};
     ghost use Rattle.gn_service.specs.Any.{IsLinkOf};
 
@@ -200,6 +207,31 @@ impl<
     ghost may_end = { λ _ _. ⊤ };
 
     ghost originates = { λ all. is_some all.pinging.pings };
+
+    ghost recalls = { λ all. P.recalls all.recalling.past };
+
+    /// Who watches learns, once all are made, how many steps are left.
+    fn recall<B: Allocator + Copy>(&mut self, alloc: B) -> Result<Option<Recall<B>>, RunFault> {
+        let recall = self.recalling.past.recall(alloc)?;
+        if recall.is_none()
+            && let Some(left) = self.recalling.left()
+        {
+            self.watch.open(left);
+        }
+        Ok(recall)
+    }
+
+    fn recalled<B: Allocator + Copy>(
+        &mut self,
+        recall: Recall<B>,
+        answer: Result<Receipt<B>, Refusal>,
+    ) -> Result<(), RunFault> {
+        if answer.is_ok() {
+            self.recalling.add();
+            self.gate.recalled();
+        }
+        self.recalling.past.recalled(recall, answer)
+    }
 
     /// Once the run is stopped nobody comes any more.
     fn next<R: Wait>(

@@ -122,6 +122,11 @@ impl Owed {
         self.steps.fetch_add(1, Ordering::SeqCst);
     }
 
+    /// A step of before was made again. What is in flight by then is routed before a link comes.
+    pub(crate) fn recalled(&self) {
+        self.steps.fetch_add(1, Ordering::SeqCst);
+    }
+
     /// A step of a link's threads was made.
     pub(crate) fn made(&self, step: Made) {
         match step {

@@ -58,11 +58,22 @@ impl<'a> Reminder<'a> {
 #[derive(Drop)]
 pub(crate) struct Pinging<'a> {
     pub pings: Option<Pings>,
-    pub reminder: &'a Reminder<'a>,
-    pub sent: u32,
+    reminder: &'a Reminder<'a>,
+    sent: u32,
 }
 
 impl<'a> Pinging<'a> {
+    /// None of these was sent.
+    pub(crate) fn new(pings: Option<Pings>, reminder: &'a Reminder<'a>) -> Self
+        ensures { result.pings ≡ pings }
+    {
+        Pinging {
+            pings,
+            reminder,
+            sent: 0,
+        }
+    }
+
     /// The ID of the Ping that is due, if one is.
     pub(crate) fn next(&mut self) -> Option<Guid>
         ensures same { self.new.pings ≡ self.old.pings }

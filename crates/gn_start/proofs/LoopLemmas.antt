@@ -4,7 +4,7 @@ use Rattle.std.proofs.lemmas.List.{length-map, length_push}
 use Rattle.gn_links.specs.Halves.{ReadHalf, WrittenHalf}
 use Rattle.gn_actors.specs.declared.who.Numbering.{Numbering}
 use Rattle.gn_shake.specs.declared.role.Role.{Role}
-use Rattle.gn_start.specs.Incoming.{HasCome}
+use Rattle.gn_start.specs.Incoming.{HasCome, IsSameFrom}
 use Rattle.gn_start.specs.Table.{AreAll, AreComing, HasBeenMade, HasMade, TableState, all_came, came_in}
 use Rattle.gn_start.specs.declared.incoming.NewLink.{NewLink}
 use Rattle.gn_start.specs.declared.states.LinkState.{LinkState}
@@ -14,6 +14,24 @@ use Rattle.gn_start.proofs.ListLemmas.{get_push_cases}
 not_so : (was now : Bool) → (was ≡ true → now ≡ true) → now ≡ false → was ≡ false
 not_so true now more none = let no : true ≡ false = sym (more refl) ∙ none in absurd (cc no)
 not_so false now more none = refl
+
+module _ {V F : Type 0} (may : V → ℕ → Role → F → Type 0) (ends : V → ℕ → Type 0) where
+  -- what may come is the same as long as no link came
+  pub same_still : (was now : V) → now ≡ was → IsSameFrom may ends 0 was now
+  same_still was now is =
+      let at : (k : ℕ) → k ≡ 0 + k = λ k. omega arith in
+      subst (λ v. IsSameFrom may ends 0 was v) (sym is) (record {
+        same_may = λ k role known h. subst (λ n. may was n role known) (at k) h;
+        same_ends = λ k h. subst (λ n. ends was n) (at k) h;
+      })
+
+  pub same_on : (was mid now : V) → IsSameFrom may ends 0 was mid → IsSameFrom may ends 0 mid now → IsSameFrom may ends 0 was now
+  same_on was mid now first then =
+      let at : (k : ℕ) → 0 + k ≡ k = λ k. omega arith in
+      record {
+        same_may = λ k role known h. first.same_may k role known (subst (λ n. may mid n role known) (at k) (then.same_may k role known h));
+        same_ends = λ k h. first.same_ends k (subst (λ n. ends mid n) (at k) (then.same_ends k h));
+      }
 
 module _ {V Rd W O F : Type 0} (read_of : Rd → O) (foreknown : O → F) (may : V → ℕ → Role → F → Type 0) (ends : V → ℕ → Type 0) where
   -- where the next link came
@@ -50,23 +68,14 @@ module _ {V Rd W O F : Type 0} (read_of : Rd → O) (foreknown : O → F) (may :
         no_more = λ known none by. are.no_more known (not_so faulty faulty' more none) by;
       }))
 
-  -- before the first
-  pub none_before : (first : V) → AreComing {W = W} read_of foreknown may ends first first []
-  none_before first =
-      let at : (k : ℕ) → k ≡ 0 + k = λ k. omega arith in (
-        record { may_come = λ k c h. absurd (cc h) },
-        record {
-          same_may = λ k role known h. subst (λ n. may first n role known) (at k) h;
-          same_ends = λ k h. subst (λ n. ends first n) (at k) h;
-        },
-      )
-
-  -- of a run that began with none
-  pub made_from_none : {A : Type 0} (is_known : Bool) (rest : V) (before after : TableState Rd W A) → before.states ≡ [] → HasMade read_of foreknown is_known may ends rest before after
-      → HasBeenMade read_of foreknown is_known (may rest) (ends rest) after
-  made_from_none {A = A} is_known rest before after none made = record {
-    now = made.each rest (subst (λ (s : List (LinkState Rd W A)). AreComing read_of foreknown may ends rest rest (all_came s)) (sym none) (none_before rest));
-  }
+  -- of a run that began with none, once the steps of before were made again
+  pub made_since : {A : Type 0} (is_known : Bool) (first rest : V) (before after : TableState Rd W A) → IsSameFrom may ends 0 first rest → before.states ≡ []
+      → HasMade read_of foreknown is_known may ends rest before after → HasBeenMade read_of foreknown is_known (may first) (ends first) after
+  made_since {A = A} is_known first rest before after same none made =
+      let begun : AreComing {W = W} read_of foreknown may ends first rest [] = (record { may_come = λ k c h. absurd (cc h) }, same) in
+      record {
+        now = made.each first (subst (λ (s : List (LinkState Rd W A)). AreComing read_of foreknown may ends first rest (all_came s)) (sym none) begun);
+      }
 
 -- as many links came as there are states
 pub came_long : {Rd W A : Type 0} (states : List (LinkState Rd W A)) → length (all_came states) ≡ length states

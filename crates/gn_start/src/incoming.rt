@@ -1,15 +1,17 @@
 //! Where the links of a run come from.
 
-ghost use Rattle.std.specs.Prelude.{◌≡◌, ◌<◌, ℕ, Bool, false, IfErr, IfOk, IfSome};
+ghost use Rattle.std.specs.Prelude.{◌≡◌, ◌<◌, ℕ, Bool, None, false, IfErr, IfOk, IfSome};
 ghost use Rattle.gn_shake.specs.declared.role.Role.{Role};
 ghost use Rattle.gn_start.specs.Faults.{IsArrivingFault};
-ghost use Rattle.gn_start.specs.Incoming.{IsComing, MayPing};
+ghost use Rattle.gn_start.specs.Incoming.{IsComing, IsSameFrom, MayPing};
 
 use crate::fault::RunFault;
 use gn_links::{LinkReader, LinkWriter, Place};
 use gn_room::Waiting;
+use gn_rules::{Event, Receipt, Refusal, Reply};
 use gn_shake::Role;
 use gn_wire::Guid;
+use std::alloc::{Allocator, Global};
 use std::sync::Wait;
 
 /// A link that has come: how it begins, and its two halves.
@@ -31,6 +33,13 @@ pub enum Coming<Rd, W> {
     Ping(Guid),
     /// No more come.
     Over,
+}
+
+/// An event that the house makes before the first link comes, and the reply that it had before, where it is made again.
+#[derive(Drop)]
+pub struct Recall<A: Allocator = Global> {
+    pub event: Event<A>,
+    pub reply: Option<Reply<A>>,
 }
 
 /// Where the links of a run come from, one after another, whether or not it is known how many.
@@ -64,6 +73,32 @@ pub trait Incoming: Drop {
 
     /// Whether the own servent sends Pings while links come.
     ghost originates: { Self → Bool } = { λ _. false };
+
+    /// Whether the house makes steps of before again.
+    ghost recalls: { Self → Bool } = { λ _. false };
+
+    /// The next event that the house makes before the first link comes; `None`: there is none, or no more.
+    fn recall<A: Allocator + Copy>(&mut self, _alloc: A) -> Result<Option<Recall<A>>, RunFault>
+        ensures none { recalls self.old ≡ false → IfOk result (λ recall. recall ≡ None) }
+        ensures coming { IsSameFrom may_come may_end 0 self.old self.new }
+        ensures same { (originates self.new ≡ originates self.old) × (recalls self.new ≡ recalls self.old) }
+        ensures fault { IfErr result (λ fault. (links workers : ℕ) → IsArrivingFault has_peers links workers fault) }
+    {
+        Ok(None)
+    }
+
+    /// Learns what the rules answered to the event that was given last. An `Err` ends the run.
+    fn recalled<A: Allocator + Copy>(
+        &mut self,
+        _recall: Recall<A>,
+        _answer: Result<Receipt<A>, Refusal>,
+    ) -> Result<(), RunFault>
+        ensures coming { IsSameFrom may_come may_end 0 self.old self.new }
+        ensures same { (originates self.new ≡ originates self.old) × (recalls self.new ≡ recalls self.old) }
+        ensures fault { IfErr result (λ fault. (links workers : ℕ) → IsArrivingFault has_peers links workers fault) }
+    {
+        Ok(())
+    }
 
     /// Waits for the next link, which gets this number and this place; without a place, as all are taken, none comes. Who waits for
     /// long waits by what is lent, too, so that those that have ended are joined meanwhile. A run that has failed asks on for its links:

@@ -20,7 +20,7 @@ mod trouble;
 
 pub use fault::RunFault;
 pub use floor::Floor;
-pub use incoming::{Coming, Incoming, NewLink};
+pub use incoming::{Coming, Incoming, NewLink, Recall};
 pub use limits::{Limited, Limits};
 pub use opening::Opened;
 pub use over::{Over, Stagework};

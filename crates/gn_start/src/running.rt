@@ -1,6 +1,6 @@
 //! A run from its first link until all its threads are joined.
 
-ghost use Rattle.std.specs.Prelude.{◌≡◌, ◌+◌, ◌<◌, ◌≤◌, ◌^◌, [], None, ℕ, false, length, true, vec_len, IfSome};
+ghost use Rattle.std.specs.Prelude.{◌≡◌, ◌+◌, ◌<◌, ◌≤◌, ◌^◌, [], None, ℕ, false, length, true, vec_len, IfErr, IfSome};
 ghost use Rattle.gn_actors.specs.Registry.{registry_state};
 ghost use Rattle.gn_actors.specs.Who.{number_of};
 ghost use Rattle.gn_actors.specs.declared.who.Numbering.TheVariants.{Known, Open};
@@ -8,12 +8,14 @@ ghost use Rattle.gn_actors.specs.declared.who.Who.TheVariants as who;
 ghost use Rattle.gn_rules.specs.Limits.{IsCrew, most_links};
 ghost use Rattle.gn_start.specs.Crews.{AreWorked, IsFaultOfCrew};
 ghost use Rattle.gn_start.specs.Faults.{IsArrivingFault};
-ghost use Rattle.gn_start.specs.House.{HasOriginated, IsHouse};
+ghost use Rattle.gn_start.specs.House.{HasOriginated, HasRecalled, IsHouse};
+ghost use Rattle.gn_start.specs.Incoming.{IsSameFrom};
 ghost use Rattle.gn_start.specs.Numbers.{links_of, workers_of};
 ghost use Rattle.gn_start.specs.Over.{HaveCome, IsOver, views_of};
 ghost use Rattle.gn_start.specs.Table.{AreAll, AreComing, AreFree, HasBeenMade, HasMade, all_came};
 
 use crate::crew::Worked;
+use crate::fault::RunFault;
 use crate::floor::Floor;
 use crate::incoming::{Coming, Incoming};
 use crate::limits::Limited;
@@ -192,7 +194,52 @@ impl<
         table
     }
 
-    /// Starts the workers, takes all links, and joins all threads.
+    /// The house makes the next event that comes before the links, where there is one more. Whether there was.
+    #[tactic(auto, using(crate::proofs::LoopLemmas::same_on, crate::proofs::RouteLemmas::some_recalled))]
+    fn recall_next<V: Incoming>(
+        &self,
+        incoming: &mut V,
+        house: &mut Actor<B, A>,
+    ) -> Result<bool, RunFault>
+        ensures coming { IsSameFrom V.may_come V.may_end 0 incoming.old incoming.new }
+        ensures same { (V.originates incoming.new ≡ V.originates incoming.old)
+            × (V.recalls incoming.new ≡ V.recalls incoming.old) }
+        ensures house { HasRecalled (V.recalls incoming.old) house.old house.new }
+        ensures fault { IfErr result (λ fault. (links workers : ℕ)
+            → IsArrivingFault V.has_peers links workers fault) }
+    {
+        let Some(recall) = incoming.recall(self.floor.alloc)? else {
+            return Ok(false);
+        };
+        let answer = self.floor.service.call(self.floor.rt, house, &recall.event);
+        incoming.recalled(recall, answer)?;
+        Ok(true)
+    }
+
+    /// The house makes all events that come before the links, in order. The fault of the run, where one can't be made.
+    #[tactic(auto, using(crate::proofs::LoopLemmas::same_on, crate::proofs::RouteLemmas::recalled_then))]
+    fn recall<V: Incoming>(&self, incoming: &mut V, house: &mut Actor<B, A>) -> Option<RunFault>
+        ensures coming { IsSameFrom V.may_come V.may_end 0 incoming.old incoming.new }
+        ensures same { V.originates incoming.new ≡ V.originates incoming.old }
+        ensures house { HasRecalled (V.recalls incoming.old) house.old house.new }
+        ensures fault { IfSome result (λ fault. (links workers : ℕ)
+            → IsArrivingFault V.has_peers links workers fault) }
+    {
+        for _ in self.floor.rt.forever() {
+            match self.recall_next(incoming, house) {
+                Ok(true) => {}
+                Ok(false) => return None,
+                Err(fault) => {
+                    self.fail();
+                    return Some(fault);
+                }
+            }
+        }
+        unreachable!()
+    }
+
+    /// Starts the workers, has the house make the steps of before again, takes all links, and joins all threads.
+    #[tactic(auto, using(crate::proofs::RouteLemmas::house_at))]
     fn run<V: Incoming, K: Keeping<V::Reader, V::Writer, A>>(
         &self,
         begun: Begun<V, K, B, A>,
@@ -206,7 +253,8 @@ impl<
         ensures same { result.0.numbering ≡ begun.numbering }
         ensures worked { AreWorked (number_of begun.numbering (who.Worker 0)) (workers_of begun.numbering) result.1 }
         ensures fault { IsFaultOfCrew begun.numbering result.1.fault }
-        ensures house { IsHouse (V.originates begun.incoming) (number_of begun.numbering who.House) result.2 }
+        ensures house { IsHouse (V.recalls begun.incoming) (V.originates begun.incoming)
+            (number_of begun.numbering who.House) result.2 }
     {
         let alloc = self.floor.alloc;
         let Begun {
@@ -230,7 +278,8 @@ impl<
         if trouble.is_lost {
             self.fail();
         }
-        let table = LinkTable::new((numbering, registry, reception), slots, trouble, keeper);
+        let mut table = LinkTable::new((numbering, registry, reception), slots, trouble, keeper);
+        table.note(self.recall(&mut incoming, &mut house));
         let table = self.run_all(&mut incoming, table, &mut house);
         let worked = crew.join(self.floor.rt, alloc);
         // Where links come from may have threads that watch those that are there.
@@ -240,7 +289,7 @@ impl<
 }
 
 /// Runs the links that come, each with a reader and a writer, and the workers, until all have ended, and joins all threads as they end. The
-/// house goes out meanwhile: it sends the own servent's Pings.
+/// house goes out meanwhile: it makes the steps of before again, and sends the own servent's Pings.
 pub fn run_links<
     V: Incoming,
     K: Keeping<V::Reader, V::Writer, A>,
@@ -275,7 +324,8 @@ where
         V.foreknown V.is_known (V.may_come incoming) (V.may_end incoming) result.0 }
     ensures fault { IfSome result.0.fault (λ fault. IsArrivingFault V.has_peers
         (links_of opened.numbering result.0.came) (workers_of opened.numbering) fault) }
-    ensures house { IsHouse (V.originates incoming) (number_of opened.numbering who.House) result.2 }
+    ensures house { IsHouse (V.recalls incoming) (V.originates incoming)
+        (number_of opened.numbering who.House) result.2 }
 {
     let begun = Begun {
         incoming,

@@ -14,4 +14,5 @@ pub use entries::{Due, Entry, next_entry};
 pub use fault::StreamFault;
 pub use header::read_history_header;
 pub use lines::LineReader;
+pub use numbered::next_numbered;
 pub use steps::next_step;

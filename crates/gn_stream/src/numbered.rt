@@ -9,7 +9,7 @@ use gn_text::is_skipped;
 use std::alloc::Allocator;
 
 /// The number of the next line that isn't skipped, which then is the one that was given last; or `None` where there is none.
-pub(crate) fn next_numbered<A: Allocator, S: Source>(
+pub fn next_numbered<A: Allocator, S: Source>(
     lines: &mut LineReader<A>,
     source: &mut S,
 ) -> Result<Option<u64>, InputFault>

@@ -23,7 +23,7 @@ use Rattle.gn_start.specs.declared.opening.Opened.{Opened}
 use Rattle.gn_threads.specs.Answers.{AreArrived}
 use Rattle.gn_threads.specs.Headline.{AreMadeOf, Holds}
 use Rattle.gn_start.specs.Faults.{IsArrivingFault}
-use Rattle.gn_threads.specs.OpenRuns.{IsOpenAnswer, IsOpenEnded, IsOpenFault}
+use Rattle.gn_threads.specs.OpenRuns.{IsOpenAnswer, IsOpenEnded, IsOpenFault, IsOpenHistory, IsRecalledAnswer}
 use Rattle.gn_threads.specs.declared.open_account.OpenAccount.{OpenAccount}
 use Rattle.std.proofs.lemmas.Simd.{map-map}
 use Rattle.gn_threads.specs.Left.{IsFaultAt, IsOpenedFor, ends_in, may_in}
@@ -140,16 +140,25 @@ known_fault has_peers m over links workers fault is at = (subst (λ n. IsFaultAt
 
 module _ {Rd W K B A O F : Type 0} (turns batch : ℕ) (views : LinkViews Rd W O) (foreknown : O → F) (s : Config) (workers : ℕ) (over : Over Rd W K B A) (is_known : Bool) (may : ℕ → Role → F → Type 0) (ends : ℕ → Type 0)
     (came : HaveCome views foreknown is_known may ends over) (fault : Option RunFault) (stopped : fault ≡ None → over.fault ≡ None) (lost : over.fault ≡ None → over.is_lost ≡ false) where
+  each_came : (account : OpenAccount Rd W A) → (fault ≡ None) × (over.links.items ≡ map (λ link. Whole link) account.links.items)
+      → (k : ℕ) (link : LinkAccount Rd W A) → slice_get account.links.items k ≡ Some link → may k link.role (foreknown (views.reader_of link.reader))
+  each_came account links k link is =
+      let whole : LinkAccount Rd W A → LinkEnd Rd W A = λ a. Whole a in
+      let at : slice_get over.links.items k ≡ Some (whole link) =
+      ap (λ (es : List (LinkEnd Rd W A)). slice_get es k) links.1 ∙ to_map whole account.links.items k link is in
+      came.may_come (lost (stopped links.0)) k link at
+
   -- its links are the first of those that were to come
   pub open_answered : {E : Type 0} (originates : Bool) (answer : Result (OpenAccount Rd W A) E) → IfOk answer (λ account. (fault ≡ None) × (over.links.items ≡ map (λ link. Whole link) account.links.items))
       → IfOk answer (λ account. IsOpenEnded originates views batch s workers account) → IfOk answer (λ account. IsOpenAnswer originates views foreknown batch s workers may account)
-  open_answered originates (Ok account) links ended =
-      let whole : LinkAccount Rd W A → LinkEnd Rd W A = λ a. Whole a in
-      let here = lost (stopped links.0) in
-      let at : (k : ℕ) (link : LinkAccount Rd W A) → slice_get account.links.items k ≡ Some link → slice_get over.links.items k ≡ Some (whole link) = λ k link is.
-      ap (λ (es : List (LinkEnd Rd W A)). slice_get es k) links.1 ∙ to_map whole account.links.items k link is in
-      record { ended = ended; may_come = λ k link is. came.may_come here k link (at k link is) }
+  open_answered originates (Ok account) links ended = record { ended = ended; may_come = each_came account links }
   open_answered originates (Err e) links ended = tt
+
+  -- whatever its house did
+  pub open_recalled : {E : Type 0} (answer : Result (OpenAccount Rd W A) E) → IfOk answer (λ account. (fault ≡ None) × (over.links.items ≡ map (λ link. Whole link) account.links.items))
+      → IfOk answer (λ account. IsOpenHistory views s workers account) → IfOk answer (λ account. IsRecalledAnswer views foreknown s workers may account)
+  open_recalled (Ok account) links kept = record { kept = kept; may_come = each_came account links }
+  open_recalled (Err e) links kept = tt
 
   -- who keeps what its links did keeps the accounts of all of them
   pub open_kept : {E : Type 0} (keeps : K → List (Option (LinkEnd Rd W A)) → Type 0) (keeper : K) (answer : Result (OpenAccount Rd W A) E) → keeper ≡ over.keeper

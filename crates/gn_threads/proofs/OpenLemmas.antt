@@ -32,7 +32,7 @@ use Rattle.gn_start.specs.declared.over.Over.{Over}
 use Rattle.gn_threads.specs.Homecoming.{AreAllOut, receipts_in, with_all_home}
 use Rattle.gn_threads.specs.Left.{IsCalm, IsGathered}
 use Rattle.gn_threads.specs.OpenAccounts.{accounts_of}
-use Rattle.gn_threads.specs.OpenRuns.{IsOpenEnded, IsOpenGathered, known_account, known_steps}
+use Rattle.gn_threads.specs.OpenRuns.{IsOpenEnded, IsOpenGathered, IsOpenHistory, known_account, known_steps}
 use Rattle.gn_threads.specs.declared.open_account.OpenAccount.{OpenAccount}
 use Rattle.gn_threads.specs.declared.open_ending.OpenGathered.{OpenGathered}
 use Rattle.gn_threads.proofs.AccountLemmas.{account_holds}
@@ -190,6 +190,22 @@ none_flying {A} steps others alike none =
     let same : flying (reverse others) ≡ flying (reverse steps) =
     ap (λ (ss : List (Step A)). flying (reverse ss)) (sym here) ∙ (alike.flying_in k ∙ ap (λ (ss : List (Step A)). flying (reverse ss)) there) in
     ap (λ (ts : List ℕ). length ts == 0) same ∙ none
+
+-- what holds of the history of such a run, by what was gathered of it, whatever its house did
+pub open_history : {Rd W A O : Type 0} (batch : ℕ) (views : LinkViews Rd W O) (s settings : Config) (account : OpenAccount Rd W A) (looks : Looks)
+    → list_all (λ step. nat_lt step.actor (1 + vec_len account.workers + (length account.links.items + length account.links.items))) account.history.items ≡ true
+    → IsGathered views (most_reads s.numbers.steps) batch (known_steps account) account.links.items account.workers.items account.house looks
+    → IsCalm s settings account.history.items looks → IsLegal settings (reverse account.history.items) → account.stats ≡ stats_of (reverse account.history.items)
+    → IsOpenHistory views s (vec_len account.workers) account
+open_history batch views s settings account looks only gathered calm legal stats = record {
+  legal = subst (λ call. IsLegal call (reverse account.history.items)) calm.same legal;
+  only = only;
+  own = gathered.own;
+  routes = (gathered.routes, calm.tickets);
+  each = (batch, gathered.each);
+  arrived = are_arrived (most_reads s.numbers.steps) batch views (known_account account) gathered.each;
+  stats = stats;
+}
 
 -- what holds of the account of such a run, by what was gathered of it
 pub open_ended : {Rd W A O : Type 0} → EndedIsSeen Rd W A O → MovedIsLegal A → MovedIsAlike A → (batch : ℕ) (views : LinkViews Rd W O) (s settings : Config) (account : OpenAccount Rd W A) (looks : Looks)

@@ -1,20 +1,25 @@
 -- What a run answers whose links come one after another.
-use Rattle.std.specs.Prelude.{◌≡◌, ◌<◌, ◌+◌, ◌^◌, ℕ, Bool, true, nat_lt, List, length, map, reverse, IfSome, Some, Result, Ok, Err}
+use Rattle.std.specs.Prelude.{◌≡◌, ◌<◌, ◌+◌, ◌==◌, ◌^◌, ℕ, Bool, true, nat_lt, List, length, map, reverse, IfSome, Some, Result, Ok, Err}
 use Rattle.std.specs.List.{list_all, slice_get}
 use Rattle.std.proofs.Math.Path.{subst, sym}
 use Rattle.std.proofs.lemmas.List.{length-map}
 use Rattle.gn_rules.specs.declared.config.Config.{Config}
 use Rattle.gn_rules.specs.declared.receipt.Step.{Step}
 use Rattle.gn_rules.specs.Answer.{IsLegal}
+use Rattle.gn_rules.specs.Flight.{flying}
+use Rattle.gn_rules.specs.Limits.{most_reads}
+use Rattle.gn_rules.specs.Statistics.{stats_of}
 use Rattle.gn_shake.specs.declared.role.Role.{Role}
+use Rattle.gn_actors.specs.Registry.{AreWhole}
 use Rattle.gn_report.specs.declared.account.Account.{Account}
 use Rattle.gn_report.specs.declared.account.LinkAccount.{LinkAccount}
 use Rattle.gn_report.specs.declared.report.Report.{Report}
-use Rattle.gn_report.specs.Accounts.{report_of}
+use Rattle.gn_report.specs.Accounts.{all_receipts, is_routing, report_of, unkept_list}
 use Rattle.gn_report.specs.Ended.{LinkViews}
 use Rattle.gn_report.specs.Vectors.{vec_of}
 use Rattle.gn_renumber.specs.Renumbered.{known_number, renumbered}
 use Rattle.gn_start.specs.Faults.{IsArrivingFault}
+use Rattle.gn_start.specs.Over.{AllEnded}
 use Rattle.gn_start.specs.declared.fault.RunFault.{RunFault}
 use Rattle.gn_threads.specs.Answers.{AreArrived}
 use Rattle.gn_threads.specs.Headline.{HoldsAs}
@@ -62,6 +67,30 @@ pub record IsOpenEnded {Rd W A O : Type 0} (originates : Bool) (views : LinkView
 pub record IsOpenAnswer {Rd W A O F : Type 0} (originates : Bool) (views : LinkViews Rd W O) (foreknown : O → F) (batch : ℕ) (s : Config) (workers : ℕ)
     (may : ℕ → Role → F → Type 0) (account : OpenAccount Rd W A) : Type 0 where
   pub ended : IsOpenEnded originates views batch s workers account
+  -- each link came as it might
+  pub may_come : (k : ℕ) (link : LinkAccount Rd W A) → slice_get account.links.items k ≡ Some link
+      → may k link.role (foreknown (views.reader_of link.reader))
+
+-- what holds of the account of an open run of this configuration and of so many workers, whatever steps of before its house made again
+pub record IsOpenHistory {Rd W A O : Type 0} (views : LinkViews Rd W O) (s : Config) (workers : ℕ) (account : OpenAccount Rd W A) : Type 0 where
+  -- its history, those steps with it, is legal, and no step is of anybody but its actors
+  pub legal : IsLegal s (reverse account.history.items)
+  pub only : list_all (λ step. nat_lt step.actor (1 + workers + (length account.links.items + length account.links.items))) account.history.items ≡ true
+  -- each actor's receipts are its own steps, each once and in order, in the numbers of known links
+  pub own : AreWhole (known_steps account) (all_receipts account.links.items account.workers.items account.house)
+  -- the workers made no event but Route; at the end nothing is in flight
+  pub routes : (list_all is_routing (map unkept_list account.workers.items) ≡ true) × ((length (flying (reverse account.history.items)) == 0) ≡ true)
+  -- each link's reader and writer did what their ends say, in those numbers, a writer with some most packets that it takes at once
+  pub each : (batch : ℕ) × AllEnded (most_reads s.numbers.steps) batch views (known_steps account) account.links.items
+  -- each reader read what the link that it was made of gives, and both halves of a link were made of one
+  pub arrived : AreArrived views.reads views.gives views.reader_of views.writer_of (known_report account)
+  -- the account's statistics are those of the history
+  pub stats : account.stats ≡ stats_of (reverse account.history.items)
+
+-- what such a run answers whose links might come so
+pub record IsRecalledAnswer {Rd W A O F : Type 0} (views : LinkViews Rd W O) (foreknown : O → F) (s : Config) (workers : ℕ)
+    (may : ℕ → Role → F → Type 0) (account : OpenAccount Rd W A) : Type 0 where
+  pub kept : IsOpenHistory views s workers account
   -- each link came as it might
   pub may_come : (k : ℕ) (link : LinkAccount Rd W A) → slice_get account.links.items k ≡ Some link
       → may k link.role (foreknown (views.reader_of link.reader))

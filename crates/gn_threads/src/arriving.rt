@@ -274,7 +274,8 @@ where
         K.keeps B.turns B.batch begun.opened.numbering (workers_of begun.opened.numbering) result.0.over }
     ensures came { HaveCome (views_of V.Reader.state V.Writer.state V.Reader.gives V.Reader.made_of V.Writer.made_of)
         V.foreknown V.is_known (V.may_come begun.incoming) (V.may_end begun.incoming) result.0.over }
-    ensures house { IsHouse (V.originates begun.incoming) (number_of begun.opened.numbering House) result.0.house }
+    ensures house { IsHouse (V.recalls begun.incoming) (V.originates begun.incoming)
+        (number_of begun.opened.numbering House) result.0.house }
     ensures fault { IsFaultAt V.has_peers begun.opened.numbering result.0.over result.0.fault }
     ensures follows { W.follows course result.1 }
 {

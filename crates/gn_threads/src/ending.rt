@@ -84,7 +84,8 @@ where
         K.keeps B.turns B.batch begun.opened.numbering (workers_of begun.opened.numbering) result.over }
     ensures came { HaveCome (views_of V.Reader.state V.Writer.state V.Reader.gives V.Reader.made_of V.Writer.made_of)
         V.foreknown V.is_known (V.may_come begun.incoming) (V.may_end begun.incoming) result.over }
-    ensures house { IsHouse (V.originates begun.incoming) (number_of begun.opened.numbering who.House) result.house }
+    ensures house { IsHouse (V.recalls begun.incoming) (V.originates begun.incoming)
+        (number_of begun.opened.numbering who.House) result.house }
     ensures fault { IsFaultAt V.has_peers begun.opened.numbering result.over result.fault }
 {
     let Begun {

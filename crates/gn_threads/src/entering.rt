@@ -6,7 +6,7 @@ ghost use Rattle.gn_report.specs.declared.account.LinkEnd.TheVariants.{Whole};
 ghost use Rattle.gn_start.specs.Over.{views_of};
 ghost use Rattle.gn_threads.specs.Answers.{IsKeptAnswer, halted_views};
 ghost use Rattle.gn_threads.specs.Courses.{IsLeft};
-ghost use Rattle.gn_threads.specs.OpenRuns.{AreOpenStepsOf, IsOpenAnswer, IsOpenFault, known_report};
+ghost use Rattle.gn_threads.specs.OpenRuns.{AreOpenStepsOf, IsOpenAnswer, IsOpenFault, IsRecalledAnswer, known_report};
 
 use crate::arriving::{PARTS, run_bodies};
 use crate::asked::{Asked, Routing};
@@ -41,7 +41,8 @@ pub struct Entering<'a, V, K> {
 
 /// Runs a router, which has no steps, over links that come one after another, each with a reader and a writer, and with this many workers,
 /// until no more links come and all these threads have ended. Each link is let go as it ends: nothing of it is kept but what its keeper
-/// keeps. The keeper comes back, and what is left of who ran beside the run, who had all of its steps.
+/// keeps. The keeper comes back, and what is left of who ran beside the run, who had all of its steps. The steps of before that the house
+/// makes again, where there are any, are the first of them.
 pub fn run_open<
     C: RouterCore<A> + Drop + Send,
     W: Course<C, A> + Send + Drop,
@@ -71,9 +72,13 @@ where
     requires empty { C.steps routing.core ≡ [] }
     ensures answer { IsKeptAnswer asked.now.config.now asked.now.workers (IsOpenFault V.has_peers asked.now.workers)
         (λ _. ⊤) (λ _. ⊤) known_report halted_views result.0 }
-    ensures account { IfOk result.0 (IsOpenAnswer (V.originates entering.entry.incoming)
+    ensures account { V.recalls entering.entry.incoming ≡ false
+        → IfOk result.0 (IsOpenAnswer (V.originates entering.entry.incoming)
         (views_of V.Reader.state V.Writer.state V.Reader.gives V.Reader.made_of V.Writer.made_of) V.foreknown
         asked.now.batch asked.now.config.now asked.now.workers (V.may_come entering.entry.incoming)) }
+    ensures recalled { IfOk result.0 (IsRecalledAnswer
+        (views_of V.Reader.state V.Writer.state V.Reader.gives V.Reader.made_of V.Writer.made_of) V.foreknown
+        asked.now.config.now asked.now.workers (V.may_come entering.entry.incoming)) }
     ensures keeper { IfOk result.0 (λ account.
         K.keeps result.1 (map (λ link. Some (Whole link)) account.links.items)) }
     ensures rest { IsLeft (W.follows routing.course) W.leaves result.2 (AreOpenStepsOf result.0) }
@@ -150,9 +155,13 @@ where
     requires empty { C.steps routing.core ≡ [] }
     ensures answer { IsKeptAnswer asked.now.config.now asked.now.workers (IsOpenFault V.has_peers asked.now.workers)
         (λ _. ⊤) (λ _. ⊤) known_report halted_views result.0 }
-    ensures account { IfOk result.0 (IsOpenAnswer (V.originates entering.entry.incoming)
+    ensures account { V.recalls entering.entry.incoming ≡ false
+        → IfOk result.0 (IsOpenAnswer (V.originates entering.entry.incoming)
         (views_of V.Reader.state V.Writer.state V.Reader.gives V.Reader.made_of V.Writer.made_of) V.foreknown
         B.batch asked.now.config.now asked.now.workers (V.may_come entering.entry.incoming)) }
+    ensures recalled { IfOk result.0 (IsRecalledAnswer
+        (views_of V.Reader.state V.Writer.state V.Reader.gives V.Reader.made_of V.Writer.made_of) V.foreknown
+        asked.now.config.now asked.now.workers (V.may_come entering.entry.incoming)) }
     ensures keeper { IfOk result.0 (λ account.
         K.keeps result.1 (map (λ link. Some (Whole link)) account.links.items)) }
     ensures rest { IsLeft (W.follows routing.course) W.leaves result.2 (AreOpenStepsOf result.0) }

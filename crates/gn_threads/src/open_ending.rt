@@ -13,7 +13,7 @@ ghost use Rattle.gn_start.specs.declared.fault.RunFault.TheVariants.{HistoryFull
 ghost use Rattle.gn_threads.specs.Homecoming.{AreAllOut, receipts_in, with_all_home};
 ghost use Rattle.gn_threads.specs.Left.{IsCalm};
 ghost use Rattle.gn_threads.specs.OpenAccounts.{accounts_of};
-ghost use Rattle.gn_threads.specs.OpenRuns.{AreOpenStepsOf, IsOpenEnded, IsOpenFault, IsOpenGathered};
+ghost use Rattle.gn_threads.specs.OpenRuns.{AreOpenStepsOf, IsOpenEnded, IsOpenFault, IsOpenGathered, IsOpenHistory};
 ghost use mathlib.Core.List.{IsPrefix};
 
 use crate::finishing::{halt_alone, is_calm};
@@ -88,6 +88,9 @@ fn make_account<V: Incoming, L: Limited, C: RouterCore<A>, A: Allocator + Copy>(
     ensures ended { (originates : Bool) → are_houses originates all.house.items ≡ true → IsOpenEnded originates
         (views_of V.Reader.state V.Writer.state V.Reader.gives V.Reader.made_of V.Writer.made_of)
         L.batch config.now (vec_len all.workers) result }
+    ensures recalled { IsOpenHistory
+        (views_of V.Reader.state V.Writer.state V.Reader.gives V.Reader.made_of V.Writer.made_of)
+        config.now (vec_len all.workers) result }
     ensures links { result.links ≡ all.links }
     ensures steps { result.history.items ≡ C.steps core.now }
 {
@@ -132,6 +135,9 @@ where
         → IsOpenEnded originates
         (views_of V.Reader.state V.Writer.state V.Reader.gives V.Reader.made_of V.Writer.made_of)
         L.batch config.now (vec_len over.workers) account) }
+    ensures recalled { IfOk result.0 (IsOpenHistory
+        (views_of V.Reader.state V.Writer.state V.Reader.gives V.Reader.made_of V.Writer.made_of)
+        config.now (vec_len over.workers)) }
     ensures links { IfOk result.0 (λ account. over.links.items ≡ map (λ link. Whole link) account.links.items) }
     ensures steps { IfOk result.0 (λ account. account.history.items ≡ hub.new.steps) }
 {
@@ -190,6 +196,9 @@ where
         → are_houses originates left.house.receipts ≡ true → IsOpenEnded originates
         (views_of V.Reader.state V.Writer.state V.Reader.gives V.Reader.made_of V.Writer.made_of)
         L.batch config.now workers account) }
+    ensures recalled { IfOk result.0 (IsOpenHistory
+        (views_of V.Reader.state V.Writer.state V.Reader.gives V.Reader.made_of V.Writer.made_of)
+        config.now workers) }
     ensures links { IfOk result.0 (λ account. (left.fault ≡ None)
         × (left.over.links.items ≡ map (λ link. Whole link) account.links.items)) }
     ensures keeper { result.1 ≡ left.over.keeper }

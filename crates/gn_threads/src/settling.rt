@@ -70,8 +70,8 @@ pub(crate) fn wind_up<
     house: Actor<B, A>,
 ) -> Left<Rd, W, K, B, A>
     ensures over { result.over ≡ over }
-    ensures house { (originates : Bool) (number : ℕ) → IsHouse originates number house
-        → IsHouse originates number result.house }
+    ensures house { (recalls originates : Bool) (number : ℕ) → IsHouse recalls originates number house
+        → IsHouse recalls originates number result.house }
     ensures stopped { result.fault ≡ None → over.fault ≡ None }
     ensures fault { IfSome result.fault (λ fault. (has_peers : Bool) (links workers : ℕ)
         → IfSome over.fault (λ fault. IsArrivingFault has_peers links workers fault)

@@ -116,6 +116,7 @@ abbrev pub set_lines : AskedServe → Text
 set_lines serving = flags_lines
     ((codes "stop-early", serving.early)
     ∷ (codes "until-eof", serving.until_eof)
+    ∷ (codes "resume", serving.resumes)
     ∷ (codes "keep-history", serving.keeps)
     ∷ (codes "times", serving.times)
     ∷ (codes "links", serving.links)

@@ -1,5 +1,5 @@
 -- What the values of options say.
-use Rattle.std.specs.Prelude.{◌≡◌, ◌∷◌, ◌++◌, ◌==◌, ◌&&◌, ◌||◌, ℕ, Bool, false, List, [], Option, Some, None, Result, Ok, Err, codes, is_some, length, nat_le, not, option_map, slice_index, unwrap_or, if◌then◌else◌}
+use Rattle.std.specs.Prelude.{◌≡◌, ◌∷◌, ◌++◌, ◌==◌, ◌&&◌, ◌||◌, ℕ, Bool, false, true, List, [], Option, Some, None, Result, Ok, Err, codes, is_some, length, nat_le, not, option_map, slice_index, unwrap_or, if◌then◌else◌}
 use Rattle.std.specs.List.{slice_split}
 use Rattle.std.specs.Option.{option_map_or}
 use Rattle.std.specs.Str.{bytes_eq}
@@ -10,6 +10,7 @@ use Rattle.gn_text.specs.Addresses.{ip_of}
 use Rattle.gn_text.specs.Bytes.{guid_of}
 use Rattle.gn_numbers.specs.Numbers.{number_below, number_of, ◌>>=◌}
 use Rattle.gn_words.specs.ServeOptions.{AskedServe}
+use Rattle.gn_words.specs.declared.callers.Rates.{Rates}
 use Rattle.gn_words.specs.declared.serve.Shared.{Shared}
 use Rattle.gn_words.specs.declared.serve.Times.{Times}
 use Rattle.gn_words.specs.declared.request.Peer.{Peer}
@@ -174,6 +175,15 @@ flood_of crowd stage rows = do
   seconds ← number_asked (codes "flood") 0 86400 rows
   if seconds == 0 then Some None else if is_never_crowded crowd stage then None else Some (Some seconds)
 
+-- the seconds between two Pings, how many callers a minute, for how long a flood, by a serve of so many callers, or any number, where crowd
+-- is the threshold of each neighbour and stage that of all
+abbrev pub rates_of : Option ℕ → ℕ → ℕ → List Row → Option Rates
+rates_of accept crowd stage rows = do
+  ping ← ping_of accept rows
+  callers_a_minute ← callers_a_minute_of accept rows
+  flood ← flood_of crowd stage rows
+  Some (record { ping = ping; callers_a_minute = callers_a_minute; flood = flood })
+
 -- the limit that a number of seconds says: none, where there are none
 abbrev pub limit_of : ℕ → Option ℕ
 limit_of seconds = if seconds == 0 then None else Some seconds
@@ -195,15 +205,30 @@ retry_with (Some accept) Never = Some Never
 retry_with (Some accept) (For seconds) = Some (For seconds)
 retry_with None retry = Some retry
 
--- the seconds of a serve's limits, where each is within its own: for a silent peer, a peer that doesn't listen, the run, its end
-abbrev pub times_of : Option ℕ → List Row → Option Times
-times_of accept rows = do
+-- whether a serve goes on with a history that standard input gives: only where any number of callers is taken, standard input isn't what ends
+-- it, and its servent is always the same
+abbrev pub resumes_by : Option ℕ → Bool → Servent → Bool → Option Bool
+resumes_by accept until_eof servent false = Some false
+resumes_by (Some accept) until_eof servent true = None
+resumes_by None true servent true = None
+resumes_by None false Random true = None
+resumes_by None false (Given id) true = Some true
+
+-- whether the options say so
+abbrev pub resumes_of : Option ℕ → Servent → List Row → Option Bool
+resumes_of accept servent rows = resumes_by accept (is_set (codes "until-eof") rows) servent (is_set (codes "resume") rows)
+
+-- the seconds of a serve's limits, where each is within its own: for a silent peer, a peer that doesn't listen, the run, its end; and whether
+-- it goes on with a history
+abbrev pub times_of : Option ℕ → Servent → List Row → Option Times
+times_of accept servent rows = do
   idle ← number_asked (codes "idle") 0 86400 rows
   said ← retry_of rows
   seconds ← number_asked (codes "for") 0 86400 rows
   grace ← number_asked (codes "grace") 0 3600 rows
   retry ← retry_with accept said
-  Some (record { idle = limit_of idle; retry = retry; seconds = limit_of seconds; grace = grace })
+  resumes ← resumes_of accept servent rows
+  Some (record { idle = limit_of idle; retry = retry; seconds = limit_of seconds; grace = grace; resumes = resumes })
 
 -- the port where the counts of a serve are asked for, 1 to 65535 and not the one that peers call; none, where it is 0
 abbrev pub metrics_of : ℕ → List Row → Option (Option ℕ)
@@ -230,12 +255,10 @@ serving_of rows = do
   servent ← servent_of rows
   shared ← shared_of port rows
   peers ← peers_of (calls_far site) rows
-  ping ← ping_of accept rows
-  callers_a_minute ← callers_a_minute_of accept rows
   batch ← batch_of rows
   numbers ← numbers_of rows
-  flood ← flood_of numbers.crowd numbers.stage rows
-  times ← times_of accept rows
+  rates ← rates_of accept numbers.crowd numbers.stage rows
+  times ← times_of accept servent rows
   Some (record {
     port = port;
     accept = accept;
@@ -248,15 +271,16 @@ serving_of rows = do
     peers = peers;
     idle = times.idle;
     retry = times.retry;
-    ping = ping;
-    callers_a_minute = callers_a_minute;
-    flood = flood;
+    ping = rates.ping;
+    callers_a_minute = rates.callers_a_minute;
+    flood = rates.flood;
     batch = batch;
     numbers = numbers;
     seconds = times.seconds;
     grace = times.grace;
     early = is_set (codes "stop-early") rows;
     until_eof = is_set (codes "until-eof") rows;
+    resumes = times.resumes;
     keeps = is_set (codes "keep-history") rows;
     times = is_set (codes "times") rows;
     links = is_set (codes "links") rows;

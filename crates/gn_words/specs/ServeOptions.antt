@@ -13,8 +13,8 @@ use Rattle.gn_words.specs.declared.request.Site.{Site}
 -- minute, where that is limited; for how many seconds a neighbour may flood the router, where that is limited; how many packets are
 -- written to a neighbour at once at most; the numbers of the router's rules; the seconds after which the run is stopped, where a time
 -- stops it, and those that it then has to end; whether it is stopped at nine tenths of its steps, and at the end of standard input;
--- whether the history of a run that stops at a fault is kept; whether times and links stand in the history as comments; and whether a
--- report of the links is written, and how far the run is
+-- whether it goes on with the history that standard input gives; whether the history of a run that stops at a fault is kept; whether
+-- times and links stand in the history as comments; and whether a report of the links is written, and how far the run is
 pub record AskedServe : Type 0 where
   pub port : ℕ
   pub accept : Option ℕ
@@ -36,6 +36,7 @@ pub record AskedServe : Type 0 where
   pub grace : ℕ
   pub early : Bool
   pub until_eof : Bool
+  pub resumes : Bool
   pub keeps : Bool
   pub times : Bool
   pub links : Bool

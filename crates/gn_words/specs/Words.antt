@@ -92,6 +92,7 @@ quiet_app = with_rules (new_app (codes "serve"))
     ∷ default_rule (codes "grace") (codes "5")
     ∷ flag_rule (codes "stop-early")
     ∷ flag_rule (codes "until-eof")
+    ∷ flag_rule (codes "resume")
     ∷ [])
 
 -- the subcommand `serve`: it is also said what is printed in and beside its history
@@ -250,6 +251,7 @@ usual_serve =
       grace = 5;
       early = false;
       until_eof = false;
+      resumes = false;
       keeps = false;
       times = false;
       links = false;
@@ -257,7 +259,7 @@ usual_serve =
       progress = false;
     }
 
--- a serve of which each option is given
+-- a serve of which each option is given but `--resume`, which isn't taken with all others
 abbrev pub full_serve : AskedServe
 full_serve =
     record {
@@ -291,12 +293,17 @@ full_serve =
       grace = 3600;
       early = true;
       until_eof = true;
+      resumes = false;
       keeps = true;
       times = true;
       links = true;
       report = true;
       progress = true;
     }
+
+-- a serve of any number of callers that goes on with a history
+abbrev pub resumed_serve : AskedServe
+resumed_serve = record usual_serve { accept = None; resumes = true }
 
 -- the words that are written of a serve, behind the program's name and the command's
 abbrev pub written_words : Text → AskedServe → List Text
@@ -327,9 +334,10 @@ pub record PlainWordsAreRead : Type 0 where
   pub config : (program : Text)
       → request_of (serve_words program (codes "6346") (codes "128") (codes "64") (codes "--print-config" ∷ []))
       ≡ Some (Config usual_serve)
-  -- what is then written is read as that very serve, and so is what is written of one with each option
+  -- what is then written is read as that very serve, and so is what is written of one with each option but `--resume`, and of one with that
   pub written : (program : Text) → request_of (written_words program usual_serve) ≡ Some (Serve usual_serve)
   pub full : (program : Text) → request_of (written_words program full_serve) ≡ Some (Serve full_serve)
+  pub resumed : (program : Text) → request_of (written_words program resumed_serve) ≡ Some (Serve resumed_serve)
   pub any : (program : Text) → request_of (serve_words program (codes "6346") (codes "any") (codes "64") [])
       ≡ Some (Serve (record usual_serve { accept = None }))
   -- peers are called for as long as a serve of any number of callers runs; by one of so many that is a mistake
@@ -338,6 +346,20 @@ pub record PlainWordsAreRead : Type 0 where
       ≡ Some (Serve (record usual_serve { accept = None; retry = Always }))
   pub not_always : (program : Text)
       → kinds_of (serve_words program (codes "6346") (codes "1") (codes "1") (codes "--retry" ∷ codes "always" ∷ []))
+      ≡ ValueValidation ∷ []
+  -- a serve goes on with a history where it is asked for, only with any number of callers, the same servent, and no end of its input
+  pub goes_on : (program : Text)
+      → request_of (serve_words program (codes "6346") (codes "any") (codes "64") (codes "--resume" ∷ []))
+      ≡ Some (Serve resumed_serve)
+  pub goes_on_alone : (program : Text)
+      → kinds_of (serve_words program (codes "6346") (codes "1") (codes "1") (codes "--resume" ∷ []))
+      ≡ ValueValidation ∷ []
+  pub no_end : (program : Text)
+      → kinds_of (serve_words program (codes "6346") (codes "any") (codes "1") (codes "--until-eof" ∷ codes "--resume" ∷ []))
+      ≡ ValueValidation ∷ []
+  pub no_other : (program : Text)
+      → kinds_of (serve_words program (codes "6346") (codes "any") (codes "1")
+      (codes "--servent" ∷ codes "random" ∷ codes "--resume" ∷ []))
       ≡ ValueValidation ∷ []
   -- its own servent sends Pings where any number of callers is taken alone
   pub no_pings : (program : Text)

@@ -5,7 +5,7 @@ ghost use Rattle.std.specs.Option.{option_map_or};
 ghost use Rattle.std.specs.Str.{bytes_eq};
 ghost use Rattle.clap.specs.Words.{found_of, rows_of};
 ghost use Rattle.gn_words.specs.ConfigTexts.{callers_text};
-ghost use Rattle.gn_words.specs.Options.{IsReadAs, accept_of, callers_a_minute_of, flood_of, is_never_crowded, ping_of};
+ghost use Rattle.gn_words.specs.Options.{IsReadAs, accept_of, callers_a_minute_of, flood_of, is_never_crowded, ping_of, rates_of};
 
 use crate::numbers::{NumberOption, asked};
 use crate::unread::Unread;
@@ -70,7 +70,7 @@ pub(crate) fn accept_of(options: &ArgMatches<'_>) -> Result<Option<u32>, Unread>
 
 /// The seconds between two Pings of the own servent that `--ping` asks for; `None`: it sends none. A mistake, where not any number of callers
 /// is taken.
-pub(crate) fn ping_of(options: &ArgMatches<'_>, accept: Option<u32>) -> Result<Option<u32>, Unread>
+fn ping_of(options: &ArgMatches<'_>, accept: Option<u32>) -> Result<Option<u32>, Unread>
     ensures { IsReadAs (λ ping. ping) (ping_of accept (rows_of (found_of options.now))) result }
 {
     let seconds = asked(options, &PING)?;
@@ -85,10 +85,7 @@ pub(crate) fn ping_of(options: &ArgMatches<'_>, accept: Option<u32>) -> Result<O
 
 /// How many callers of one address `--callers-a-minute` lets in within a minute; `None`: as many as come. A mistake, where not any number
 /// of callers is taken.
-pub(crate) fn callers_a_minute_of(
-    options: &ArgMatches<'_>,
-    accept: Option<u32>,
-) -> Result<Option<u32>, Unread>
+fn callers_a_minute_of(options: &ArgMatches<'_>, accept: Option<u32>) -> Result<Option<u32>, Unread>
     ensures { IsReadAs (λ callers. callers) (callers_a_minute_of accept (rows_of (found_of options.now))) result }
 {
     let callers = asked(options, &CALLERS_A_MINUTE)?;
@@ -110,11 +107,7 @@ fn is_never_crowded(crowd: u32, stage: u32) -> bool
 
 /// For how many seconds `--flood` lets a neighbour flood the router; `None`: for as many as it does. A mistake, where no neighbour meets a
 /// threshold of its own.
-pub(crate) fn flood_of(
-    options: &ArgMatches<'_>,
-    crowd: u32,
-    stage: u32,
-) -> Result<Option<u32>, Unread>
+fn flood_of(options: &ArgMatches<'_>, crowd: u32, stage: u32) -> Result<Option<u32>, Unread>
     ensures { IsReadAs (λ flood. flood) (flood_of crowd stage (rows_of (found_of options.now))) result }
 {
     let seconds = asked(options, &FLOOD)?;
@@ -125,6 +118,34 @@ pub(crate) fn flood_of(
         return Err(Unread::Mistake("--flood takes a --crowd of 1 or more that is below --stage"));
     }
     Ok(Some(seconds))
+}
+
+/// How many seconds are between two Pings of the own servent, where it sends any; and how many callers of one address are let in within a
+/// minute, and for how many seconds a neighbour may flood the router, where these are limited.
+#[derive(Clone, Copy, Debug)]
+pub(crate) struct Rates {
+    pub ping: Option<u32>,
+    pub callers_a_minute: Option<u32>,
+    pub flood: Option<u32>,
+}
+
+/// These, as they are asked for, by a serve of so many callers, or of any number, and of these thresholds.
+pub(crate) fn rates_of(
+    options: &ArgMatches<'_>,
+    accept: Option<u32>,
+    crowd: u32,
+    stage: u32,
+) -> Result<Rates, Unread>
+    ensures { IsReadAs (λ rates. rates) (rates_of accept crowd stage (rows_of (found_of options.now))) result }
+{
+    let ping = ping_of(options, accept)?;
+    let callers_a_minute = callers_a_minute_of(options, accept)?;
+    let flood = flood_of(options, crowd, stage)?;
+    Ok(Rates {
+        ping,
+        callers_a_minute,
+        flood,
+    })
 }
 
 /// What says how many callers are taken.

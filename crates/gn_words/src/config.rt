@@ -211,6 +211,7 @@ fn push_set(out: &mut Vec<u8>, serving: &ServeOptions) -> Result<(), AllocError>
         &[
             ("stop-early", serving.early),
             ("until-eof", serving.until_eof),
+            ("resume", serving.resumes),
             ("keep-history", serving.keeps),
             ("times", serving.times),
             ("links", serving.links),

@@ -10,6 +10,7 @@ mod numbers;
 mod peers;
 mod replay;
 mod request;
+mod resuming;
 mod retrying;
 mod rows;
 mod serve;

@@ -130,6 +130,8 @@ pub struct ServeOptions {
     pub early: bool,
     /// Whether the run is stopped at the end of standard input.
     pub until_eof: bool,
+    /// Whether it goes on with the history that standard input gives.
+    pub resumes: bool,
     /// Whether `--keep-history` is given, which changes nothing.
     pub keeps: bool,
     /// Whether times stand in the history, as comments.
@@ -170,6 +172,7 @@ impl Model for ServeOptions {
       grace = s.grace;
       early = s.early;
       until_eof = s.until_eof;
+      resumes = s.resumes;
       keeps = s.keeps;
       times = s.times;
       links = s.links;

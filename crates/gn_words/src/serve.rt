@@ -7,10 +7,11 @@ ghost use Rattle.gn_rules.specs.Limits.{AreWithin, most};
 ghost use Rattle.gn_words.specs.Options.{IsReadAs, limit_of, metrics_of, number_asked, numbers_of, servent_in, servent_of, serving_of, shared_of, times_of};
 ghost use Rattle.gn_words.specs.Words.{quiet_app, serve_app, serve_of};
 
-use crate::callers::{accept_of, callers_a_minute_of, flood_of, ping_of};
+use crate::callers::{accept_of, rates_of};
 use crate::numbers::{NumberOption, WORKERS, WORKERS_ROW, asked};
 use crate::peers::peers_of;
 use crate::request::{Request, Retry, ServeOptions, Servent};
+use crate::resuming::resumes_of;
 use crate::retrying::{retry_of, retry_with};
 use crate::rows::{OptionRow, Takes, with_options};
 use crate::site::site_of;
@@ -31,8 +32,8 @@ const USAGE: &str =
                 [--retry SECONDS] [--ping SECONDS] [--callers-a-minute N] [--flood SECONDS]
                 [--batch N] [--neighbours N] [--remembered N] [--servents N] [--stage N] [--queue N]
                 [--life L] [--crowd Q] [--steps N] [--for SECONDS] [--grace SECONDS] [--stop-early]
-                [--until-eof] [--keep-history] [--times] [--links] [--report] [--progress]
-                [--print-config]";
+                [--until-eof] [--resume] [--keep-history] [--times] [--links] [--report]
+                [--progress] [--print-config]";
 
 /// What it does, how it ends, and what it prints, with an example.
 const TEXTS: &str = "\
@@ -57,6 +58,7 @@ Three ways stop it well, with its whole history: `--for`, in so many seconds; `-
 standard input ends, by Ctrl-D or as the writer of a pipe ends; `--stop-early`, before its most
 steps. What it owes by then is written, and after the grace it ends, whatever its neighbours do.
 examples/gn.service is a unit for a service manager, with a standard input that the manager ends.
+`--resume` goes on with a history that was cut: `gn serve .. --resume < FILE >> FILE`.
 
 A run that would make more than its most steps ends there, with the fault `history full`: one
 neighbour alone makes a million in a second. With `--stop-early` the router stops before, and is
@@ -107,8 +109,9 @@ them, and whoever calls is let in",
         letter: None,
         takes: Takes::Usual("IP", "0.0.0.0"),
         help: "\
-The IPv4 address in its own Pongs, at which neighbours can call it;
-0.0.0.0: that of --bind, which then mustn't be 0.0.0.0",
+The IPv4 address in its own Pongs, at which neighbours can call it: if
+it begins with 127, only those on this machine can; 0.0.0.0: that of
+--bind, which then mustn't be 0.0.0.0",
     },
     OptionRow {
         name: "servent",
@@ -270,8 +273,8 @@ ends with `fault: history full`",
     },
 ];
 
-/// What stops it, and how long it then has.
-const END: [OptionRow; 4] = [
+/// What stops it, how long it then has, and what it goes on with.
+const END: [OptionRow; 5] = [
     OptionRow {
         name: "for",
         letter: None,
@@ -303,6 +306,15 @@ made, with what is in flight",
         help: "\
 Stops the router as --for does at the end of standard input, which is
 read and not looked at",
+    },
+    OptionRow {
+        name: "resume",
+        letter: None,
+        takes: Takes::Nothing,
+        help: "\
+Goes on with the history of an earlier run of these options, which
+standard input gives, and writes what comes behind it. Only with
+--accept any, not with --until-eof or --servent random",
     },
 ];
 
@@ -629,6 +641,7 @@ struct Times {
     retry: Retry,
     seconds: Option<u32>,
     grace: u32,
+    resumes: bool,
 }
 
 /// The limit that a number of seconds says: none, where there are none.
@@ -638,20 +651,27 @@ fn limit_of(seconds: u32) -> Option<u32>
     if seconds == 0 { None } else { Some(seconds) }
 }
 
-/// How long a serve of so many callers, or of any number, waits and goes on, where each time is within its limits.
-fn times_of(options: &ArgMatches<'_>, accept: Option<u32>) -> Result<Times, Unread>
-    ensures { IsReadAs (λ t. t) (times_of accept (rows_of (found_of options.now))) result }
+/// How long a serve of so many callers, or of any number, waits and goes on, where each time is within its limits; and whether it goes on with
+/// a history, which one of this servent may.
+fn times_of(
+    options: &ArgMatches<'_>,
+    accept: Option<u32>,
+    servent: Servent,
+) -> Result<Times, Unread>
+    ensures { IsReadAs (λ t. t) (times_of accept servent (rows_of (found_of options.now))) result }
 {
     let idle = asked(options, &IDLE)?;
     let said = retry_of(options)?;
     let seconds = asked(options, &SECONDS)?;
     let grace = asked(options, &GRACE)?;
     let retry = retry_with(accept, said)?;
+    let resumes = resumes_of(options, accept, servent)?;
     Ok(Times {
         idle: limit_of(idle),
         retry,
         seconds: limit_of(seconds),
         grace,
+        resumes,
     })
 }
 
@@ -666,12 +686,10 @@ fn serving_of(alloc: Global, options: &ArgMatches<'_>) -> Result<ServeOptions, U
     let servent = servent_of(options)?;
     let shared = shared_of(options, port)?;
     let peers = peers_of(alloc, site.calls_far(), options)?;
-    let ping = ping_of(options, accept)?;
-    let callers_a_minute = callers_a_minute_of(options, accept)?;
     let batch = asked(options, &BATCH)?;
     let numbers = numbers_of(options)?;
-    let flood = flood_of(options, numbers.crowd, numbers.stage)?;
-    let times = times_of(options, accept)?;
+    let rates = rates_of(options, accept, numbers.crowd, numbers.stage)?;
+    let times = times_of(options, accept, servent)?;
     Ok(ServeOptions {
         port,
         accept,
@@ -684,15 +702,16 @@ fn serving_of(alloc: Global, options: &ArgMatches<'_>) -> Result<ServeOptions, U
         peers,
         idle: times.idle,
         retry: times.retry,
-        ping,
-        callers_a_minute,
-        flood,
+        ping: rates.ping,
+        callers_a_minute: rates.callers_a_minute,
+        flood: rates.flood,
         batch,
         numbers,
         seconds: times.seconds,
         grace: times.grace,
         early: is_set(options, "stop-early"),
         until_eof: is_set(options, "until-eof"),
+        resumes: times.resumes,
         keeps: is_set(options, "keep-history"),
         times: is_set(options, "times"),
         links: is_set(options, "links"),

@@ -45,9 +45,9 @@ pub mod rules {
         BadConfig, Config, ConnId, Counter, DropReason, Event, Excerpt, Field, FreshRouter,
         Historian, Legality, MOST_LINKS, MOST_WORKERS, Numbers, Own, Receipt, Refusal, Reply,
         RouterCore, Sending, Sends, Stats, Step, Ticket, answers_fit, checked_answers_fit,
-        counters_add_up, counters_count, is_same_config, live_connections_rise, may_originate,
-        output_is_untaken, run_events, runs_agree, runs_agree_so_far, runs_stay_legal,
-        servent_route_is_last,
+        counters_add_up, counters_count, is_same_config, is_same_reply, live_connections_rise,
+        may_originate, output_is_untaken, run_events, runs_agree, runs_agree_so_far,
+        runs_stay_legal, servent_route_is_last,
     };
 }
 
@@ -129,8 +129,8 @@ pub mod run {
     pub use gn_receipts::receipts_by_actor;
     pub use gn_report::{Account, LinkAccount, LinkReport, LinkTally, Report, Unkept};
     pub use gn_service::{
-        Any, Host, Parting, Pings, Ran, Serve, Serving, Stop, serve_any, serve_by, serve_kept,
-        serve_on,
+        Any, Host, NoPast, Parting, Past, Pings, Ran, Recall, Serve, Serving, Stop, serve_any,
+        serve_by, serve_kept, serve_on, serve_past,
     };
     pub use gn_threads::{
         Arrivals, Asked, Coming, Course, Halted, InMemory, OpenAccount, Routing, RunFault, Stopped,
@@ -173,7 +173,8 @@ pub mod load {
     pub use gn_load::{
         LoadFault, Loading, PrintFault, ServeFault, ServeHalted, ServeStopped, Taken, Taking,
         links_of, load, load_journalled, load_watched, print_history, serve_any_journalled,
-        serve_history, serve_history_kept, serve_journalled, serve_taken,
+        serve_history, serve_history_kept, serve_journalled, serve_past_journalled, serve_resumed,
+        serve_taken,
     };
 }
 

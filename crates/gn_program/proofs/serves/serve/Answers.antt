@@ -1,16 +1,17 @@
 use Rattle.std.proofs.Common.{◌≡◌, ◌∙◌, ℕ, Bool, Option, ap, is_some, refl, length, subst, sym, Ok, Err, Global}
 use Rattle.gn_load.specs.Any.{IsJournalledTaken}
+use Rattle.gn_program.specs.Limits.{goes_on}
 use Rattle.gn_program.specs.Peers.{AreAt}
 use Rattle.gn_rules.specs.Limits.{IsCrew}
 use Rattle.gn_start.specs.declared.fault.RunFault.TheVariants.{Listen, NoMemory}
 use Rattle.gn_words.specs.ServeOptions.{AskedServe}
-use Rattle.gn_program.proofs.ServeLemmas.{answered, asked, beside_itself, failed, unserved}
+use Rattle.gn_program.proofs.ServeLemmas.{answered, asked, failed, unserved, written_itself}
 use Rattle.gn_program.proofs.serves.serve.Goals as goal
 
 pub returns-in_err-peers : goal.returns-in_err-peers
 returns-in_err-peers g c = (
   g.W.Sink.state c.args.writer.now,
-  beside_itself _ (g.W.Sink.state c.args.writer.now),
+  written_itself _ _ (g.W.Sink.state c.args.writer.now),
   unserved c.args.serving.now c.settings-config.result c.args.remembered.now c.requires.none (g.W.Sink.state c.args.writer.now) c.from_residual.result NoMemory c.settings-config.ensures
       c.from_residual.ensures.1 (λ _. tt),
 )
@@ -18,7 +19,7 @@ returns-in_err-peers g c = (
 pub returns-in_err-stop : goal.returns-in_err-stop
 returns-in_err-stop g c = (
   g.W.Sink.state c.args.writer.now,
-  beside_itself _ (g.W.Sink.state c.args.writer.now),
+  written_itself _ _ (g.W.Sink.state c.args.writer.now),
   unserved c.args.serving.now c.settings-config.result c.args.remembered.now c.requires.none (g.W.Sink.state c.args.writer.now) c.from_residual-in_err-stop.result NoMemory c.settings-config.ensures
       c.from_residual-in_err-stop.ensures.1 (λ _. tt),
 )
@@ -26,7 +27,7 @@ returns-in_err-stop g c = (
 pub returns-in_default : goal.returns-in_default
 returns-in_default g c = (
   g.W.Sink.state c.args.writer.now,
-  beside_itself _ (g.W.Sink.state c.args.writer.now),
+  written_itself _ _ (g.W.Sink.state c.args.writer.now),
   unserved c.args.serving.now c.settings-config.result c.args.remembered.now c.requires.none (g.W.Sink.state c.args.writer.now) _ Listen c.settings-config.ensures refl (λ _. refl),
 )
 
@@ -37,11 +38,11 @@ returns g c =
     let config = c.settings-config.result in
     let called = c.deref-2.result.now in
     let old = g.W.Sink.state c.args.writer.now in
-    let told = subst (λ (again : Bool). IsJournalledTaken {A = Global} again (is_some c.args.serving.now.ping) c.args.serving.now.batch config called c.args.serving.now.accept c.args.serving.now.workers old ran.0 (Err c.in-Err.field-0)) c.taking.ensures.again
-    (subst (λ (pings : Bool). IsJournalledTaken {A = Global} c.taking.result.again pings c.args.serving.now.batch config called c.args.serving.now.accept c.args.serving.now.workers old ran.0 (Err c.in-Err.field-0)) c.taking.ensures.pings
-    (subst (λ (accept : Option ℕ). IsJournalledTaken {A = Global} c.taking.result.again (is_some c.taking.result.pings) c.args.serving.now.batch config called accept c.args.serving.now.workers old ran.0 (Err c.in-Err.field-0)) c.taking.ensures.accept
-    (subst (λ (s : AskedServe). IsJournalledTaken {A = Global} c.taking.result.again (is_some c.taking.result.pings) s.batch config called c.taking.result.accept s.workers old ran.0 (Err c.in-Err.field-0)) c.serving.view_is
-    (subst (λ (n : ℕ). IsJournalledTaken {A = Global} c.taking.result.again (is_some c.taking.result.pings) n config called c.taking.result.accept inside.workers old ran.0 (Err c.in-Err.field-0)) c.batch_of.ensures ran.2)))) in
+    let told = subst (λ (again : Bool). IsJournalledTaken {A = Global} (goes_on c.args.serving.now) again (is_some c.args.serving.now.ping) c.args.serving.now.batch config called c.args.serving.now.accept c.args.serving.now.workers old ran.0 (Err c.in-Err.field-0)) c.taking.ensures.again
+    (subst (λ (pings : Bool). IsJournalledTaken {A = Global} (goes_on c.args.serving.now) c.taking.result.again pings c.args.serving.now.batch config called c.args.serving.now.accept c.args.serving.now.workers old ran.0 (Err c.in-Err.field-0)) c.taking.ensures.pings
+    (subst (λ (accept : Option ℕ). IsJournalledTaken {A = Global} (goes_on c.args.serving.now) c.taking.result.again (is_some c.taking.result.pings) c.args.serving.now.batch config called accept c.args.serving.now.workers old ran.0 (Err c.in-Err.field-0)) c.taking.ensures.accept
+    (subst (λ (s : AskedServe). IsJournalledTaken {A = Global} (goes_on c.args.serving.now) c.taking.result.again (is_some c.taking.result.pings) s.batch config called c.taking.result.accept s.workers old ran.0 (Err c.in-Err.field-0)) c.serving.view_is
+    (subst (λ (n : ℕ). IsJournalledTaken {A = Global} (goes_on c.args.serving.now) c.taking.result.again (is_some c.taking.result.pings) n config called c.taking.result.accept inside.workers old ran.0 (Err c.in-Err.field-0)) c.batch_of.ensures ran.2)))) in
     let many : length called ≡ length inside.peers.items =
     ap (λ xs. length xs) c.deref-2.ensures.value ∙ c.in_ok-peers.ensures.many ∙ ap (λ xs. length xs) c.deref.ensures.value in
     let at : AreAt inside.peers.items called =
@@ -61,11 +62,11 @@ returns-in-Ok-answer g c =
     let config = c.settings-config.result in
     let called = c.deref-2.result.now in
     let old = g.W.Sink.state c.args.writer.now in
-    let told = subst (λ (again : Bool). IsJournalledTaken {A = Global} again (is_some c.args.serving.now.ping) c.args.serving.now.batch config called c.args.serving.now.accept c.args.serving.now.workers old ran.0 (Ok (c.in-Ok-answer.taken, c.in-Ok-answer.ran))) c.taking.ensures.again
-    (subst (λ (pings : Bool). IsJournalledTaken {A = Global} c.taking.result.again pings c.args.serving.now.batch config called c.args.serving.now.accept c.args.serving.now.workers old ran.0 (Ok (c.in-Ok-answer.taken, c.in-Ok-answer.ran))) c.taking.ensures.pings
-    (subst (λ (accept : Option ℕ). IsJournalledTaken {A = Global} c.taking.result.again (is_some c.taking.result.pings) c.args.serving.now.batch config called accept c.args.serving.now.workers old ran.0 (Ok (c.in-Ok-answer.taken, c.in-Ok-answer.ran))) c.taking.ensures.accept
-    (subst (λ (s : AskedServe). IsJournalledTaken {A = Global} c.taking.result.again (is_some c.taking.result.pings) s.batch config called c.taking.result.accept s.workers old ran.0 (Ok (c.in-Ok-answer.taken, c.in-Ok-answer.ran))) c.serving.view_is
-    (subst (λ (n : ℕ). IsJournalledTaken {A = Global} c.taking.result.again (is_some c.taking.result.pings) n config called c.taking.result.accept inside.workers old ran.0 (Ok (c.in-Ok-answer.taken, c.in-Ok-answer.ran))) c.batch_of.ensures ran.2)))) in
+    let told = subst (λ (again : Bool). IsJournalledTaken {A = Global} (goes_on c.args.serving.now) again (is_some c.args.serving.now.ping) c.args.serving.now.batch config called c.args.serving.now.accept c.args.serving.now.workers old ran.0 (Ok (c.in-Ok-answer.taken, c.in-Ok-answer.ran))) c.taking.ensures.again
+    (subst (λ (pings : Bool). IsJournalledTaken {A = Global} (goes_on c.args.serving.now) c.taking.result.again pings c.args.serving.now.batch config called c.args.serving.now.accept c.args.serving.now.workers old ran.0 (Ok (c.in-Ok-answer.taken, c.in-Ok-answer.ran))) c.taking.ensures.pings
+    (subst (λ (accept : Option ℕ). IsJournalledTaken {A = Global} (goes_on c.args.serving.now) c.taking.result.again (is_some c.taking.result.pings) c.args.serving.now.batch config called accept c.args.serving.now.workers old ran.0 (Ok (c.in-Ok-answer.taken, c.in-Ok-answer.ran))) c.taking.ensures.accept
+    (subst (λ (s : AskedServe). IsJournalledTaken {A = Global} (goes_on c.args.serving.now) c.taking.result.again (is_some c.taking.result.pings) s.batch config called c.taking.result.accept s.workers old ran.0 (Ok (c.in-Ok-answer.taken, c.in-Ok-answer.ran))) c.serving.view_is
+    (subst (λ (n : ℕ). IsJournalledTaken {A = Global} (goes_on c.args.serving.now) c.taking.result.again (is_some c.taking.result.pings) n config called c.taking.result.accept inside.workers old ran.0 (Ok (c.in-Ok-answer.taken, c.in-Ok-answer.ran))) c.batch_of.ensures ran.2)))) in
     let many : length called ≡ length inside.peers.items =
     ap (λ xs. length xs) c.deref-2.ensures.value ∙ c.in_ok-peers.ensures.many ∙ ap (λ xs. length xs) c.deref.ensures.value in
     let at : AreAt inside.peers.items called =

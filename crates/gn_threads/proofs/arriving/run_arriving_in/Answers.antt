@@ -36,7 +36,7 @@ conclude-answer-requires-clause-left g c =
     let left = c.run_bodies-left.result.0 in
     let given = c.run_bodies-left.ensures in
     let is = subst (λ opened. opened.numbering ≡ Known (length c.args.coming.roles.now) c.args.asked.now.workers) (sym c.new-begun.ensures.0) c.in-Ok.ensures.numbering in
-    over_known _ _ _ _ _ c.new-begun.result.opened.numbering left.over left.house is given.over given.house.is given.house.own
+    over_known _ _ _ _ _ c.new-begun.result.opened.numbering left.over left.house is given.over given.house.is (given.house.own refl)
 
 pub conclude-answer-requires-clause-well : goal.conclude-answer-requires-clause-well
 conclude-answer-requires-clause-well g c = λ none.

@@ -6,7 +6,7 @@ use Rattle.gn_rules.specs.declared.receipt.Receipt.{Receipt}
 use Rattle.gn_report.specs.declared.account.LinkEnd.TheVariants.{Whole}
 use Rattle.gn_start.specs.Over.{views_of}
 use Rattle.gn_threads.specs.Homecoming.{receipts_in}
-use Rattle.gn_threads.specs.OpenRuns.{IsOpenEnded, IsOpenGathered}
+use Rattle.gn_threads.specs.OpenRuns.{IsOpenEnded, IsOpenGathered, IsOpenHistory}
 use Rattle.gn_threads.proofs.OpenLemmas.{all_open, open_links, open_many, open_out}
 use Rattle.gn_threads.proofs.open_ending.confirm_open.Goals as goal
 
@@ -43,6 +43,15 @@ returns-clause-ended g c =
     λ originates own.
     subst (λ n. IsOpenEnded originates views g.L.Limited.batch c.args.config.now n c.make_account-account.result) crew
     (c.make_account-account.ensures.ended originates (subst (λ (rs : List (Receipt g.row.A.Denot)). are_houses originates rs ≡ true) (sym c.in-Ok.ensures.house) own))
+
+pub returns-clause-recalled : goal.returns-clause-recalled
+returns-clause-recalled g c =
+    let all = c.in-Ok.all in
+    let over = c.args.over in
+    let views = views_of g.V.Reader.LinkReader.state g.V.Writer.LinkWriter.state g.V.Reader.LinkReader.gives g.V.Reader.LinkReader.made_of g.V.Writer.LinkWriter.made_of in
+    let crew : vec_len all.workers ≡ vec_len over.workers =
+    omega (arith, ap length c.in-Ok.ensures.workers, length-map all.workers.items unkept_list, length-map over.workers.items receipts_in, all.workers.ok, over.workers.ok) in
+    subst (λ n. IsOpenHistory views c.args.config.now n c.make_account-account.result) crew c.make_account-account.ensures.recalled
 
 pub returns-clause-links : goal.returns-clause-links
 returns-clause-links g c =

@@ -1,9 +1,11 @@
 use denote.Param.Send.{sendable}
-use Rattle.std.proofs.Common.{is_some}
+use Rattle.std.proofs.Common.{◌∙◌, ap, is_some, subst}
+use Rattle.std.specs.Prelude.{IfOk}
 use Rattle.std.proofs.Crossing.{crosses}
 use Rattle.std.proofs.CrossingOver as over
 use Rattle.std.proofs.lemmas.Result.{IfOk-weaker}
-use Rattle.gn_service.proofs.AnyLemmas.{from_first}
+use Rattle.gn_service.specs.Any.{IsAnyAccount}
+use Rattle.gn_service.proofs.AnyLemmas.{from_first, resumed_first}
 use Rattle.gn_service.proofs.any.Unlimited.over_links.Goals as goal
 
 pub run_open-answer-requires-send-V-Reader : goal.run_open-answer-requires-send-V-Reader
@@ -15,8 +17,14 @@ run_open-answer-requires-send-V-Writer g c κs within = search (sendable, over.c
 pub returns-clause-served : goal.returns-clause-served
 returns-clause-served g c =
     let s = c.args.self.serve.now in
+    let answer = c.run_open-answer.result.0 in
     record {
       answered = c.run_open-answer.ensures.answer;
-      account = IfOk-weaker c.run_open-answer.result.0 _ _ (λ account answered. from_first s.accept.again (is_some s.accept.pings) s.batch s.config.now s.peers.now s.workers account answered)
-          c.run_open-answer.ensures.account;
+      resumed = IfOk-weaker answer _ _ (λ account answered. resumed_first s.accept.again s.config.now s.peers.now s.workers account answered)
+          c.run_open-answer.ensures.recalled;
+      account = λ none.
+          let recalls = ap g.P.Past.recalls c.new.ensures ∙ none in
+          subst (λ pings. IfOk answer (λ account. IsAnyAccount s.accept.again (is_some pings) s.batch s.config.now s.peers.now s.workers account)) c.new-3.ensures
+          (IfOk-weaker answer _ _ (λ account answered. from_first s.accept.again (is_some c.new-3.result.pings) s.batch s.config.now s.peers.now s.workers account answered)
+          (c.run_open-answer.ensures.account recalls));
     }

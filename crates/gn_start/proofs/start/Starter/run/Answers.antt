@@ -1,10 +1,10 @@
-use Rattle.std.proofs.Common.{subst, vec_len}
+use Rattle.std.proofs.Common.{◌∙◌, ap, subst, vec_len}
 use Rattle.gn_actors.specs.Who.{number_of}
 use Rattle.gn_actors.specs.declared.who.Who.TheVariants.{Worker}
 use Rattle.gn_start.specs.Begun.{BegunState}
 use Rattle.gn_start.specs.Crews.{IsFaultOfCrew}
 use Rattle.gn_start.specs.Table.{HasBeenMade}
-use Rattle.gn_start.proofs.LoopLemmas.{made_from_none}
+use Rattle.gn_start.proofs.LoopLemmas.{made_since}
 use Rattle.gn_start.proofs.OpeningLemmas.{crew_within}
 use Rattle.gn_start.proofs.start.Starter.run.Goals as goal
 
@@ -14,7 +14,9 @@ returns-clause-made g c =
     let read_of = g.V.Reader.LinkReader.made_of in
     let foreknown = g.V.Incoming.foreknown in
     let is_known = g.V.Incoming.is_known in
-    let made = made_from_none read_of foreknown g.V.Incoming.may_come g.V.Incoming.may_end is_known b.incoming c.new-table.result c.run_all-table.result c.new-table.ensures.1 c.run_all-table.ensures.made in
+    let rest = c.recall.new.incoming in
+    let none = ap (λ t. t.states) c.note.ensures.others ∙ c.new-table.ensures.1 in
+    let made = made_since read_of foreknown g.V.Incoming.may_come g.V.Incoming.may_end is_known b.incoming rest c.note.new.self c.run_all-table.result c.recall.ensures.coming none c.run_all-table.ensures.made in
     subst (λ (w : BegunState g.row.V.Denot). HasBeenMade read_of foreknown is_known (g.V.Incoming.may_come w.incoming) (g.V.Incoming.may_end w.incoming) c.run_all-table.result) c.begun.view_is made
 
 pub returns-clause-fault : goal.returns-clause-fault

@@ -4,23 +4,26 @@ use Rattle.gn_service.proofs.any.fn.Unlimited.beside.join+arg3+FnOnce.call_once.
 
 pub join+arg3-requires : goal.join+arg3-requires
 join+arg3-requires g c =
-    let bounds = c.requires.1.1.1.1.1.1.1.1 in (
+    let bounds = c.requires.1.1.1.1.1.1.1.1.1 in (
       param_send _ _ (arg_send _ yes _ bounds.0),
       (
         param_send _ _ (arg_send _ yes _ bounds.1),
         (
-          copied_send _ _ (arg_send _ yes _ bounds.2),
+          param_send _ _ (arg_send _ yes _ bounds.2),
           (
-            param_send _ _ (arg_send _ yes _ bounds.3),
+            copied_send _ _ (arg_send _ yes _ bounds.3),
             (
-              param_sync _ _ (arg_sync _ yes _ bounds.4),
+              param_send _ _ (arg_send _ yes _ bounds.4),
               (
                 param_sync _ _ (arg_sync _ yes _ bounds.5),
                 (
                   param_sync _ _ (arg_sync _ yes _ bounds.6),
                   (
-                    copied_sync _ _ (arg_sync _ yes _ bounds.7),
-                    bounds.8,
+                    param_sync _ _ (arg_sync _ yes _ bounds.7),
+                    (
+                      copied_sync _ _ (arg_sync _ yes _ bounds.8),
+                      bounds.9,
+                    ),
                   ),
                 ),
               ),

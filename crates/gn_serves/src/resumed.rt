@@ -1,0 +1,147 @@
+//! Serves that go on with steps of before.
+
+ghost use Rattle.std.specs.Prelude.{true};
+
+use crate::batch::usual_batch;
+use crate::loopback::peers::sent;
+use crate::wanted::a_listener;
+use gn_fixtures::usual;
+use gn_io::WriterSink;
+use gn_links::NoGate;
+use gn_load::serve_past_journalled;
+use gn_report::LinkAccount;
+use gn_rules::{Event, Receipt, Refusal, Reply, is_same_reply};
+use gn_service::{Any, Parting, Past, Recall, RunFault, Serve, Serving, Stop};
+use gn_tcp::{TcpReader, TcpWriter};
+use std::alloc::{Allocator, Global};
+use std::net::{Net, Shutdown, SocketAddr, TcpListener, TcpStream};
+use std::sync::Wait;
+use std::test::Fail;
+use std::thread::Threads;
+use std::time::{Clock, Duration};
+
+/// How the history of a run begins that makes these steps again, and that somebody has called before.
+const HISTORY: &str = "\
+gnutella-history 1
+config 4 8 4 8 8 10000
+own eeeeeeeeeeeeeeeeeeeeeeeeeeeeeeee 127.0.0.1 6346 5 40
+0 connect = connected 1
+0 connect = connected 2
+0 close 1 = closed 0
+0 close 2 = closed 0
+3 connect = connected 3
+";
+
+/// Learns nothing.
+struct Nobody;
+
+impl Parting<Global> for Nobody {
+    fn left(&self, _link: u32, _account: &LinkAccount<TcpReader<'_>, TcpWriter>) {}
+}
+
+/// Two links that were connected, the later with this number, of which one has gone; the other one is let go.
+#[derive(Drop)]
+struct Before {
+    made: u32,
+    second: u32,
+}
+
+impl Past for Before {
+    ghost recalls = { λ _. true };
+
+    fn recall<A: Allocator + Copy>(&mut self, _alloc: A) -> Result<Option<Recall<A>>, RunFault> {
+        let (event, reply) = match self.made {
+            0 => (Event::Connect, Some(Reply::Connected(1))),
+            1 => (Event::Connect, Some(Reply::Connected(self.second))),
+            2 => (Event::Close(1), Some(Reply::Closed(0))),
+            3 => (Event::Close(2), None),
+            _ => return Ok(None),
+        };
+        self.made = self.made.wrapping_add(1);
+        Ok(Some(Recall { event, reply }))
+    }
+
+    fn recalled<A: Allocator + Copy>(
+        &mut self,
+        recall: Recall<A>,
+        answer: Result<Receipt<A>, Refusal>,
+    ) -> Result<(), RunFault> {
+        match (&recall.reply, &answer) {
+            (_, Err(_)) => Err(RunFault::NoMemory),
+            (Some(reply), Ok(receipt)) if !is_same_reply(reply, &receipt.reply) => {
+                Err(RunFault::NoMemory)
+            }
+            _ => Ok(()),
+        }
+    }
+}
+
+/// Somebody who calls, and says no more than the greeting.
+fn a_caller<N: Net<Listener = TcpListener, Stream = TcpStream>>(
+    net: &N,
+    at: SocketAddr,
+) -> Result<TcpStream, Fail> {
+    let client = sent(net, at, b"")?;
+    client.shutdown(Shutdown::Write)?;
+    Ok(client)
+}
+
+/// What a serve writes that goes on with these, is called by somebody, and is stopped then; where it ends well.
+fn written<
+    R: Threads
+        + Wait
+        + Net<Listener = TcpListener, Stream = TcpStream>
+        + Clock
+        + AllocGlobal
+        + Sync,
+>(rt: &R, alloc: Global, past: Before) -> Result<Option<Vec<u8>>, Fail> {
+    let listener = a_listener(rt)?;
+    let client = a_caller(rt, listener.local_addr()?)?;
+    let Ok(config) = usual(10_000) else {
+        return Ok(None);
+    };
+    let stop = Stop::new(Some(Duration::from_secs(1)), false);
+    let serve = Serve {
+        listener: &listener,
+        config: &config,
+        peers: &[],
+        accept: Any {
+            leaving: &Nobody,
+            again: false,
+            pings: None,
+            callers_a_minute: None,
+        },
+        workers: 2,
+        limits: Serving {
+            stop: Some(&stop),
+            ..Serving::UNLIMITED
+        },
+        watch: &NoGate,
+        batch: usual_batch(),
+    };
+    let mut sink = WriterSink::new(Vec::new(alloc));
+    let served = serve_past_journalled(rt, alloc, &serve, past, &mut sink);
+    drop(client);
+    match served {
+        Ok(_) => Ok(Some(sink.into_inner())),
+        Err(_) => Ok(None),
+    }
+}
+
+/// The steps of before are the first of the history, which the house makes, in order; who calls is let in after them.
+#[test]
+fn steps_of_before_come_first(rt: HostRuntime) -> Result<(), Fail> {
+    let before = Before { made: 0, second: 2 };
+    let written = written(&rt, rt.alloc(), before)?;
+    assert!(rt; matches!(&written, Some(text) if text.starts_with(HISTORY.as_bytes())));
+    Ok(())
+}
+
+/// Where the rules answer otherwise than before, who knows these steps ends the run.
+#[test]
+fn other_replies_end_the_run(rt: HostRuntime) -> Result<(), Fail> {
+    let before = Before { made: 0, second: 7 };
+    let written = written(&rt, rt.alloc(), before)?;
+    assert!(rt; written.is_none());
+    Ok(())
+}
