@@ -14,7 +14,7 @@ mod query;
 mod refusal;
 
 pub use checked::{Checked, Verdict, verdict_on};
-pub use hit::{QueryHit, read_hit, servent_of_hit};
+pub use hit::{Hit, read_hit, servent_of_hit};
 pub use hit_result::{HitResult, Results};
 pub use hit_writer::write_hit;
 pub use laws::{one_reading, sound_is_read};

@@ -38,7 +38,7 @@ fn hit_payload<A: Allocator>(alloc: A, hits: u8, middle: &[u8]) -> Result<Vec<u8
 }
 
 /// The results of a Query Hit.
-fn listed<'a, A: Allocator>(alloc: A, hit: &QueryHit<'a>) -> Result<Vec<HitResult<'a>, A>, Fail> {
+fn listed<'a, A: Allocator>(alloc: A, hit: &Hit<'a>) -> Result<Vec<HitResult<'a>, A>, Fail> {
     let mut results = Vec::new(alloc);
     for result in hit.results() {
         results.push(result)?;
@@ -123,7 +123,7 @@ fn queries(rt: HostRuntime) -> Result<(), Fail> {
 type Encoded<'a> = (u8, &'a [u8], &'a [u8]);
 
 /// Whether a Query Hit has so many results, these bytes of them, and these after them; and what all here have.
-fn has_fields(hit: &QueryHit<'_>, encoded: Encoded<'_>) -> bool {
+fn has_fields(hit: &Hit<'_>, encoded: Encoded<'_>) -> bool {
     let (count, result_bytes, trailer) = encoded;
     (hit.hits(), hit.port(), hit.speed()) == (count, 6346, 28)
         && (hit.ip(), hit.servent()) == ([127, 0, 0, 2], SERVENT)
@@ -132,7 +132,7 @@ fn has_fields(hit: &QueryHit<'_>, encoded: Encoded<'_>) -> bool {
 }
 
 /// Whether these are the results of a Query Hit.
-fn has_results(alloc: Global, hit: &QueryHit<'_>, wanted: &[HitResult<'_>]) -> Result<bool, Fail> {
+fn has_results(alloc: Global, hit: &Hit<'_>, wanted: &[HitResult<'_>]) -> Result<bool, Fail> {
     let results = listed(alloc, hit)?;
     let are_wanted = results.as_slice() == wanted;
     drop(results);
