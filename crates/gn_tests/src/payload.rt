@@ -1,7 +1,7 @@
-//! Payloads byte for byte, both ways: Queries and Query Hits.
+//! Payloads byte for byte, both ways: Queries and Query Hits. And payloads by their kinds.
 
 use gn_payload::*;
-use gn_wire::Guid;
+use gn_wire::{Guid, Kind};
 use std::alloc::{AllocError, Allocator, Global};
 use std::test::Fail;
 
@@ -207,5 +207,24 @@ fn hits(rt: HostRuntime) -> Result<(), Fail> {
             "{count} results"
         );
     }
+    Ok(())
+}
+
+/// Whether a Query's payload of this text is read of these bytes.
+fn is_query(bytes: &[u8], text: &[u8]) -> bool {
+    match read_payload(Kind::Query, bytes) {
+        Some(Payload::Query(query)) => query.text == text,
+        _ => false,
+    }
+}
+
+#[test]
+fn payloads_by_kind(rt: HostRuntime) -> Result<(), Fail> {
+    let query = b"\0\0x\0";
+    assert!(rt; is_query(query, b"x"));
+    assert!(rt; read_payload(Kind::Pong, query).is_none());
+    assert!(rt; matches!(read_payload(Kind::Ping, b""), Some(Payload::Ping)));
+    assert!(rt; read_payload(Kind::Ping, query).is_none());
+    assert!(rt; read_payload(Kind::Unknown(2), query).is_none());
     Ok(())
 }
