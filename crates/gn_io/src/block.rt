@@ -1,7 +1,9 @@
 //! Output that is written in blocks.
 
 ghost use Rattle.std.specs.Prelude.{◌≡◌, ◌<◌, ◌++◌, [], length, OnOk, OnErr};
+ghost use Rattle.std.specs.Borrow.{sem};
 ghost use Rattle.std.specs.Io.KnownBytes.{Appends};
+ghost use Rattle.gn_io.specs.Lent.{lends_bytes};
 ghost use Rattle.gn_io.specs.Parts.{AppendsPart, LeavesToWrite, block_size};
 ghost use Rattle.gn_io.specs.Streams.{HasWriteFailed, NoWriteFailed};
 
@@ -38,12 +40,20 @@ impl<A: Allocator> Block<A> {
         }
     }
 
+    /// The bytes that wait, to be added to.
+    pub fn bytes(&mut self) -> &mut Vec<u8, A>
+        ensures* back { sem 𝓛 (lends_bytes A.row A.Allocator self.entry result) }
+        ensures bytes { result.now.items ≡ self.old }
+    {
+        &mut self.waiting
+    }
+
     /// Adds bytes to those that wait. An `Err` is out of memory.
     pub fn add(&mut self, bytes: &[u8]) -> Result<(), AllocError>
         ensures ok { OnOk result (self.new ≡ self.old ++ bytes.now) }
         ensures err { OnErr result (self.new ≡ self.old) }
     {
-        self.waiting.extend_from_slice(bytes)
+        self.bytes().extend_from_slice(bytes)
     }
 
     /// Writes all that waits. An `Err` is a write that failed, or one that took none: then what wasn't written is given

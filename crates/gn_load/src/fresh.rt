@@ -60,6 +60,6 @@ impl Fresh {
             consumer,
         } = self;
         let router = TableRouter::over(alloc, config, Journal::<N>::new(producer))?;
-        Ok((router.named::<N>(), Scribe::new(alloc, consumer, heading)))
+        Ok((router.named::<N>(), Scribe::new(consumer, heading)))
     }
 }

@@ -30,5 +30,5 @@ pub fn print_history<A: Allocator, B: Allocator + Copy, W: Sink>(
     ensures unfailed { OnOk result (NoWriteFailed (W.state sink.old) (W.state sink.new)) }
 {
     let block = history_heading(alloc, config)?;
-    print_end(alloc, block, steps, sink)
+    print_end(block, steps, sink)
 }

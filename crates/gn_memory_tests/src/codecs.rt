@@ -18,7 +18,7 @@ enum Written {
     Pong,
     Push,
     Query,
-    QueryHit,
+    Hit,
 }
 
 /// Appends to a vector that holds other bytes and is full.
@@ -48,7 +48,7 @@ const WRITES: [Writes; 5] = [
         held: b"before\0\0x\0",
     },
     Writes {
-        written: Written::QueryHit,
+        written: Written::Hit,
         held: b"before\x02\xca\x18\x7f\0\0\x02\x1c\0\0\0\x01\0\0\0\x0a\0\0\0a\0\0\x02\0\0\0\x14\0\0\0b\0z\0LIME\x5e\x5e\x5e\x5e\x5e\x5e\x5e\x5e\x5e\x5e\x5e\x5e\x5e\x5e\x5e\x5e",
     },
 ];
@@ -137,7 +137,7 @@ impl<A: Allocator> Call<A> for Writes {
             Written::Pong => answer(write_pong(&PONG, out)),
             Written::Push => answer(write_push(&PUSH, out)),
             Written::Query => answer_of(write_query(0, b"x", b"", out)),
-            Written::QueryHit => answer_of(write_two_results(out)),
+            Written::Hit => answer_of(write_two_results(out)),
         }
     }
 

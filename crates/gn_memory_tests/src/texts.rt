@@ -379,7 +379,7 @@ type Row = (Command, &'static str, &'static str, u64, u64);
 /// Each command over the first Ping's capture or history.
 const COMMANDS: [Row; 8] = [
     (Command::Replay, CAPTURE, PRINTED, 47, 48),
-    (Command::ReplayHistory, CAPTURE, FIRST_PING, 50, 51),
+    (Command::ReplayHistory, CAPTURE, FIRST_PING, 49, 50),
     (
         Command::Audit(Legality::Legal),
         FIRST_PING,

@@ -2,6 +2,7 @@ pub mod EntryLemmas
 pub mod HitGrammar
 pub mod HitEncoded
 pub mod Numbers
+pub mod PongGrammar
 pub mod PongLemmas
 pub mod Readers
 pub mod ResultGrammar

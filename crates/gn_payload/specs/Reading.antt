@@ -5,7 +5,7 @@ use Rattle.gn_wire.specs.declared.kind.Kind.TheVariants.{Ping, Pong, Push, Query
 use Rattle.gn_wire.specs.Packet.{Packet}
 use Rattle.gn_payload.specs.declared.checked.Verdict.{Verdict}
 use Rattle.gn_payload.specs.declared.checked.Verdict.TheVariants.{Sound, UnknownKind, Malformed}
-use Rattle.gn_payload.specs.Fields.{QueryFields, ResultFields, HitFields, number_at, bytes_at, hit_servent, hit_middle}
+use Rattle.gn_payload.specs.Fields.{QueryFields, ResultFields, HitFields, number_at, bytes_at, push_servent, hit_servent, hit_middle}
 use Rattle.gn_payload.specs.Grammar.{IsPong, IsPush, IsQuery, IsHit}
 use Rattle.gn_payload.specs.declared.pong.Pong as pong
 use Rattle.gn_payload.specs.declared.push.Push as push
@@ -19,6 +19,18 @@ o >>= f = option_and_then f o
 abbrev pub text_reading : List ℕ → Option (List ℕ × List ℕ)
 text_reading [] = None
 text_reading (b ∷ bytes) = if b == 0 then Some ([], bytes) else option_map (λ x. (b ∷ x.0, x.1)) (text_reading bytes)
+
+-- the reading of a Pong
+abbrev pub pong_reading : List ℕ → Option pong.Pong
+pong_reading bytes =
+    if length bytes == 14 then Some (record { port = number_at 2 0 bytes; ip = bytes_at 4 2 bytes; files = number_at 4 6 bytes; kbytes = number_at 4 10 bytes })
+    else None
+
+-- the reading of a Push
+abbrev pub push_reading : List ℕ → Option push.Push
+push_reading bytes =
+    if length bytes == 26 then Some (record { servent = push_servent bytes; file = number_at 4 16 bytes; ip = bytes_at 4 20 bytes; port = number_at 2 24 bytes })
+    else None
 
 -- the reading of a Query
 abbrev pub query_reading : List ℕ → Option QueryFields
@@ -44,6 +56,32 @@ abbrev pub hit_reading : List ℕ → Option HitFields
 hit_reading bytes =
     if nat_lt (length bytes) 27 then None
     else option_map (λ x. record { port = number_at 2 1 bytes; ip = bytes_at 4 3 bytes; speed = number_at 4 7 bytes; results = x.0; trailer = x.1; servent = hit_servent bytes }) (results_reading (slice_index bytes 0) (hit_middle bytes))
+
+-- what a payload says: nothing, or the fields of its kind
+pub data Read : Type 0 where
+  Empty : Read
+  OfPong : pong.Pong → Read
+  OfPush : push.Push → Read
+  OfQuery : QueryFields → Read
+  OfHit : HitFields → Read
+
+-- the reading of a payload of this kind; a Ping has no bytes, and of an unknown kind none is read
+abbrev pub reading : Kind → List ℕ → Option Read
+reading Ping bytes = if length bytes == 0 then Some Empty else None
+reading Pong bytes = option_map OfPong (pong_reading bytes)
+reading Push bytes = option_map OfPush (push_reading bytes)
+reading Query bytes = option_map OfQuery (query_reading bytes)
+reading QueryHit bytes = option_map OfHit (hit_reading bytes)
+reading (Unknown code) bytes = None
+
+-- what is said is the grammar's reading of a payload of this kind
+abbrev pub IsReading : Kind → List ℕ → Read → Type 0
+IsReading Ping bytes Empty = bytes ≡ []
+IsReading Pong bytes (OfPong p) = IsPong bytes p
+IsReading Push bytes (OfPush p) = IsPush bytes p
+IsReading Query bytes (OfQuery q) = IsQuery bytes q
+IsReading QueryHit bytes (OfHit h) = IsHit bytes h
+IsReading kind bytes read = ⊥
 
 -- the results that so many are, where the bytes begin with them
 abbrev pub results_in : ℕ → List ℕ → List ResultFields

@@ -1,10 +1,9 @@
 //! A descriptor whose payload has been checked.
 
 ghost use Rattle.std.specs.Prelude.{◌≡◌};
-ghost use Rattle.gn_payload.specs.Reading.{has_reading, verdict_of};
+ghost use Rattle.gn_payload.specs.Reading.{verdict_of};
 
-use crate::hit::hit_in;
-use crate::query::query_in;
+use crate::payload::is_readable;
 use gn_wire::{Descriptor, Kind};
 use std::alloc::{Allocator, Global};
 use std::marker::Model;
@@ -37,20 +36,6 @@ impl<A: Allocator> Model for Checked<A> {
     ghost view = { λ c. c.descriptor };
 
     ghost invariant = { λ c. c.verdict ≡ verdict_of c.descriptor };
-}
-
-/// Whether a payload of this kind has a reading.
-fn is_readable(kind: Kind, payload: &[u8]) -> bool
-    ensures { result ≡ has_reading kind payload.now }
-{
-    match kind {
-        Kind::Ping => payload.is_empty(),
-        Kind::Pong => payload.len() == 14,
-        Kind::Push => payload.len() == 26,
-        Kind::Query => query_in(payload).is_some(),
-        Kind::QueryHit => hit_in(payload).is_some(),
-        Kind::Unknown(_) => false,
-    }
 }
 
 /// What a check says of a descriptor that is only lent.

@@ -13,7 +13,7 @@ use std::marker::Model;
 
 /// What a servent has of what was looked for (Gnutella v0.4, "Query Hit"). Only `read_hit` makes one.
 #[derive(Debug, Drop)]
-pub struct QueryHit<'a> {
+pub struct Hit<'a> {
     hits: u8,
     port: u16,
     ip: [u8; 4],
@@ -23,7 +23,7 @@ pub struct QueryHit<'a> {
     servent: Guid,
 }
 
-impl<'a> Model for QueryHit<'a> {
+impl<'a> Model for Hit<'a> {
     ghost use Rattle.gn_payload.specs.Fields.{HitFields};
     ghost use Rattle.gn_payload.specs.Reading.{AreJust, results_in};
 
@@ -34,7 +34,7 @@ impl<'a> Model for QueryHit<'a> {
     ghost invariant = { λ h. AreJust h.hits h.results.now };
 }
 
-impl<'a> QueryHit<'a> {
+impl<'a> Hit<'a> {
     ghost use Rattle.gn_payload.specs.Grammar.{AreResults};
     ghost use Rattle.std.specs.Prelude.{[]};
 
@@ -96,7 +96,7 @@ impl<'a> QueryHit<'a> {
 }
 
 /// The fields of a Query Hit's payload, where it has them.
-pub(crate) fn hit_in(bytes: &[u8]) -> Option<QueryHit<'_>>
+pub(crate) fn hit_in(bytes: &[u8]) -> Option<Hit<'_>>
     ensures { result ≡ hit_reading bytes.now }
 {
     if bytes.len() < 27 {
@@ -105,7 +105,7 @@ pub(crate) fn hit_in(bytes: &[u8]) -> Option<QueryHit<'_>>
     let hits = bytes[0];
     let middle = &bytes[11..][..bytes.len() - 27];
     let (results, trailer) = split_results(hits, middle)?;
-    Some(QueryHit {
+    Some(Hit {
         hits,
         port: LittleEndian::read_u16(&bytes[1..]),
         ip: first_bytes(&bytes[3..]),
@@ -118,7 +118,7 @@ pub(crate) fn hit_in(bytes: &[u8]) -> Option<QueryHit<'_>>
 
 /// The reading of a Query Hit's payload. `None` where its bytes are fewer than 27, or its results don't fit between the
 /// first 11 and the last 16.
-pub fn read_hit(bytes: &[u8]) -> Option<QueryHit<'_>>
+pub fn read_hit(bytes: &[u8]) -> Option<Hit<'_>>
     ensures found { IfSome result (λ hit. IsHit bytes.now hit) }
     ensures none { IfNone result ((hit : HitFields) → IsHit bytes.now hit → ⊥) }
 {

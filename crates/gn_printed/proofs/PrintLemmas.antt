@@ -54,28 +54,9 @@ all_cut first mid last waited text held all whole h added k is =
     let P : List ℕ → Type 0 = λ t. AppendsPart mid last t in
     more_cut first mid last waited text [] all whole h (subst P added k) (append-nil (all ++ text) ∙ is)
 
--- what waited was written, and then a text
-pub both_written : (first mid last : Option (List ℕ)) (waited text left : List ℕ) → left ≡ [] → Appends first mid waited → Appends mid last text
-    → LeavesToWrite first last left (waited ++ text)
-both_written first mid last waited text left none h k =
-    (waited ++ text, appends_after first mid last waited text h k, ap (λ r. (waited ++ text) ++ r) none ∙ append-nil (waited ++ text))
-
--- what waited was written, and then a prefix of a text
-pub then_cut : (first mid last : Option (List ℕ)) (waited text : List ℕ) → Appends first mid waited → AppendsPart mid last text → AppendsPart first last (waited ++ text)
-then_cut first mid last waited text h k =
-    (k.0, (waited ++ k.1.0, appends_after first mid last waited k.1.0 h k.1.1, append_assoc waited k.1.0 k.0 ∙ ap (λ r. waited ++ r) k.1.2))
-
 -- the parts of a history's text
 pub parts_are : (heading header steps ending : List ℕ) → heading ≡ header → (heading ++ steps) ++ ending ≡ (header ++ steps) ++ ending
 parts_are heading header steps ending is = ap (λ r. (r ++ steps) ++ ending) is
-
--- a line that was made in an empty list is its text
-pub line_is : (empty line lent text : List ℕ) → empty ≡ [] → line ≡ empty ++ text → lent ≡ line → lent ≡ text
-line_is empty line lent text none made same = same ∙ made ∙ ap (λ bytes. bytes ++ text) none
-
--- what waits with a line waits with its text
-pub waits_line : (waited lent held text : List ℕ) → held ≡ waited ++ lent → lent ≡ text → held ≡ waited ++ text
-waits_line waited lent held text added is = added ∙ ap (λ bytes. waited ++ bytes) is
 
 -- what holds at an error
 pub on_err : {T E : Type 0} (r : Result T E) {P : Type 0} → P → OnErr r P

@@ -6,13 +6,10 @@ ghost use Rattle.gn_io.specs.Streams.{NoWriteFailed};
 ghost use Rattle.gn_printed.specs.Printed.{IsPrintFault};
 ghost use Rattle.gn_text.specs.Steps.{step_text};
 
-use gn_io::{Block, IoFault, Sink, write_all};
+use gn_io::{Block, IoFault, Sink};
 use gn_rules::Step;
 use gn_text::push_step;
 use std::alloc::{AllocError, Allocator};
-
-/// A line of so many bytes or more isn't copied into what waits.
-const LONG: usize = 32_768;
 
 /// Why a text wasn't written whole.
 #[derive(Clone, Copy, Debug, PartialEq, Eq)]
@@ -43,30 +40,21 @@ impl From<AllocError> for PrintFault {
     }
 }
 
-/// Writes what waits and a long line behind it, so that the line isn't in memory twice.
-fn print_long<B: Allocator, W: Sink>(
-    line: &[u8],
+/// Adds a step's line to what waits. An `Err` is out of memory, and changes nothing.
+fn add_step<A: Allocator, B: Allocator>(
     block: &mut Block<B>,
-    sink: &mut W,
-) -> Result<(), PrintFault>
-    ensures ok { OnOk result (LeavesToWrite (W.state sink.old).written (W.state sink.new).written block.new
-        (block.old ++ line.now)) }
-    ensures small { OnOk result (length block.new < block_size) }
-    ensures err { OnErr result (AppendsPart (W.state sink.old).written (W.state sink.new).written
-        (block.old ++ line.now)) }
-    ensures cause { IfErr result (λ fault. IsPrintFault fault (W.state sink.old) (W.state sink.new)) }
-    ensures writes { OnOk result (NoWriteFailed (W.state sink.old) (W.state sink.new)) }
+    step: &Step<A>,
+) -> Result<(), AllocError>
+    ensures ok { OnOk result (block.new ≡ block.old ++ step_text step.now) }
+    ensures err { OnErr result (block.new ≡ block.old) }
 {
-    block.write_rest(sink)?;
-    write_all(sink, line)?;
-    Ok(())
+    push_step(block.bytes(), step)
 }
 
 /// Adds a step's line to what waits, which is written once it is a block, of at least 32,768 bytes. An `Err` leaves a prefix of all
 /// that.
 pub fn print_step<A: Allocator, B: Allocator, W: Sink>(
     step: &Step<A>,
-    line: &mut Vec<u8, B>,
     block: &mut Block<B>,
     sink: &mut W,
 ) -> Result<(), PrintFault>
@@ -78,12 +66,7 @@ pub fn print_step<A: Allocator, B: Allocator, W: Sink>(
     ensures cause { IfErr result (λ fault. IsPrintFault fault (W.state sink.old) (W.state sink.new)) }
     ensures writes { OnOk result (NoWriteFailed (W.state sink.old) (W.state sink.new)) }
 {
-    line.clear();
-    push_step(line, step)?;
-    if line.len() >= LONG {
-        return print_long(line, block, sink);
-    }
-    block.add(line)?;
+    add_step(block, step)?;
     block.write_full(sink)?;
     Ok(())
 }

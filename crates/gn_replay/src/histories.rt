@@ -27,12 +27,8 @@ pub fn history_heading<A: Allocator + Copy>(
 ) -> Result<Block<A>, AllocError>
     ensures { IfOk result (λ block. block ≡ header_text History config.now) }
 {
-    let mut line = Vec::new(alloc);
-    push_header(&mut line, Text::History, config)?;
     let mut block = Block::new(alloc);
-    let added = block.add(&line);
-    drop(line);
-    added?;
+    push_header(block.bytes(), Text::History, config)?;
     Ok(block)
 }
 

@@ -15,7 +15,6 @@ use std::alloc::Allocator;
 /// Adds a line for each step to what waits, and writes in blocks.
 fn print_steps<A: Allocator, B: Allocator, W: Sink>(
     steps: &[Step<A>],
-    line: &mut Vec<u8, B>,
     block: &mut Block<B>,
     sink: &mut W,
 ) -> Result<(), PrintFault>
@@ -28,7 +27,7 @@ fn print_steps<A: Allocator, B: Allocator, W: Sink>(
     ensures writes { OnOk result (NoWriteFailed (W.state sink.old) (W.state sink.new)) }
 {
     for step in steps {
-        print_step(step, line, block, sink)?;
+        print_step(step, block, sink)?;
     }
     Ok(())
 }
@@ -36,7 +35,6 @@ fn print_steps<A: Allocator, B: Allocator, W: Sink>(
 /// Writes what waits, the lines of these steps behind it, and the line `end`, in blocks of at least 32,768 bytes, the last one shorter.
 /// An `Err` leaves a prefix of all that.
 pub fn print_end<A: Allocator, B: Allocator + Copy, W: Sink>(
-    alloc: B,
     waiting: Block<B>,
     steps: &[Step<A>],
     sink: &mut W,
@@ -49,9 +47,6 @@ pub fn print_end<A: Allocator, B: Allocator + Copy, W: Sink>(
     ensures unfailed { OnOk result (NoWriteFailed (W.state sink.old) (W.state sink.new)) }
 {
     let mut block = waiting;
-    let mut line = Vec::new(alloc);
-    let printed = print_steps(steps, &mut line, &mut block, sink);
-    drop(line);
-    printed?;
+    print_steps(steps, &mut block, sink)?;
     write_end(&mut block, sink)
 }

@@ -25,7 +25,6 @@ const UNWRITTEN: usize = 64;
 pub struct Scribe<A: Allocator = Global> {
     pub(crate) steps: Consumer<Step<A>, A>,
     pub(crate) block: Block<A>,
-    pub(crate) line: Vec<u8, A>,
     /// Whether it took a step.
     pub(crate) is_begun: bool,
 }
@@ -35,7 +34,7 @@ impl<A: Allocator + Copy> Scribe<A> {
     ghost use Rattle.gn_scribe.specs.Written.{HasBroken, HasWritten, KnowsBegun};
 
     /// A scribe of a ring of which no step was taken yet, with bytes that wait to be written before the first.
-    pub fn new(alloc: A, steps: Consumer<Step<A>, A>, block: Block<A>) -> Self
+    pub fn new(steps: Consumer<Step<A>, A>, block: Block<A>) -> Self
         requires { received steps ≡ [] }
         ensures steps { result.steps ≡ steps }
         ensures block { result.block ≡ block }
@@ -44,7 +43,6 @@ impl<A: Allocator + Copy> Scribe<A> {
         Scribe {
             steps,
             block,
-            line: Vec::new(alloc),
             is_begun: false,
         }
     }
@@ -66,7 +64,7 @@ impl<A: Allocator + Copy> Scribe<A> {
         for _ in 0..count {
             let step = self.steps.pop_known();
             self.is_begun = true;
-            let printed = print_step(&step, &mut self.line, &mut self.block, sink);
+            let printed = print_step(&step, &mut self.block, sink);
             drop(step);
             printed?;
         }

@@ -11,9 +11,7 @@ ghost use Rattle.gn_show.specs.Values.{hit_data, payload_data, pong_data, push_d
 
 use crate::text::utf8;
 use crate::tokens::Tokens;
-use gn_payload::{
-    HitResult, Pong, Push, Query, QueryHit, read_hit, read_pong, read_push, read_query,
-};
+use gn_payload::{Hit, HitResult, Pong, Push, Query, read_hit, read_pong, read_push, read_query};
 use gn_wire::Kind;
 use std::alloc::{AllocError, Global};
 
@@ -83,7 +81,7 @@ fn put_result(alloc: Global, tokens: &mut Tokens, found: &HitResult<'_>) -> Resu
 }
 
 /// Writes the results of a Query Hit, in order.
-fn put_results(alloc: Global, tokens: &mut Tokens, hit: &QueryHit<'_>) -> Result<(), AllocError>
+fn put_results(alloc: Global, tokens: &mut Tokens, hit: &Hit<'_>) -> Result<(), AllocError>
     ensures { OnOk result (tokens.new ≡ tokens.old ++ tokens_of (array (items_of (map result_data hit.now.results)))) }
 {
     tokens.begin_array()?;
@@ -94,7 +92,7 @@ fn put_results(alloc: Global, tokens: &mut Tokens, hit: &QueryHit<'_>) -> Result
 }
 
 /// Writes the payload of a Query Hit.
-fn put_hit(alloc: Global, tokens: &mut Tokens, hit: &QueryHit<'_>) -> Result<(), AllocError>
+fn put_hit(alloc: Global, tokens: &mut Tokens, hit: &Hit<'_>) -> Result<(), AllocError>
     ensures { OnOk result (tokens.new ≡ tokens.old ++ tokens_of (hit_data hit.now)) }
 {
     tokens.begin_object()?;

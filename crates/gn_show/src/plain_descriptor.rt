@@ -11,9 +11,7 @@ ghost use Rattle.gn_payload.specs.Views.{query_fields, result_fields};
 ghost use Rattle.gn_show.specs.Plain.{acts, char_words, descriptor_words, hit_words, id_words, kind_words, payload_words, place_words, pong_words, push_words, query_words, result_words, results_words, text_words, unread_words};
 
 use crate::text::utf8;
-use gn_payload::{
-    HitResult, Pong, Push, Query, QueryHit, read_hit, read_pong, read_push, read_query,
-};
+use gn_payload::{Hit, HitResult, Pong, Push, Query, read_hit, read_pong, read_push, read_query};
 use gn_text::{push_hex, push_ip, push_number};
 use gn_wire::{Descriptor, Guid, Kind};
 use serde_json::Value;
@@ -149,7 +147,7 @@ fn push_result(alloc: Global, out: &mut Vec<u8>, found: &HitResult<'_>) -> Resul
 }
 
 /// Appends the results of a Query Hit, in order.
-fn push_results(alloc: Global, out: &mut Vec<u8>, hit: &QueryHit<'_>) -> Result<(), AllocError>
+fn push_results(alloc: Global, out: &mut Vec<u8>, hit: &Hit<'_>) -> Result<(), AllocError>
     ensures { OnOk result (out.new.items ≡ out.old.items ++ results_words hit.now.results) }
 {
     for found in hit.results() {
@@ -159,7 +157,7 @@ fn push_results(alloc: Global, out: &mut Vec<u8>, hit: &QueryHit<'_>) -> Result<
 }
 
 /// Appends what a Query Hit says.
-fn push_hit(alloc: Global, out: &mut Vec<u8>, hit: &QueryHit<'_>) -> Result<(), AllocError>
+fn push_hit(alloc: Global, out: &mut Vec<u8>, hit: &Hit<'_>) -> Result<(), AllocError>
     ensures { OnOk result (out.new.items ≡ out.old.items ++ hit_words hit.now) }
 {
     out.extend_from_slice(b" servent ")?;

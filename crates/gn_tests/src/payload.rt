@@ -1,7 +1,7 @@
-//! Payloads byte for byte, both ways: Queries and Query Hits.
+//! Payloads byte for byte, both ways: Queries and Query Hits. And payloads by their kinds.
 
 use gn_payload::*;
-use gn_wire::Guid;
+use gn_wire::{Guid, Kind};
 use std::alloc::{AllocError, Allocator, Global};
 use std::test::Fail;
 
@@ -38,7 +38,7 @@ fn hit_payload<A: Allocator>(alloc: A, hits: u8, middle: &[u8]) -> Result<Vec<u8
 }
 
 /// The results of a Query Hit.
-fn listed<'a, A: Allocator>(alloc: A, hit: &QueryHit<'a>) -> Result<Vec<HitResult<'a>, A>, Fail> {
+fn listed<'a, A: Allocator>(alloc: A, hit: &Hit<'a>) -> Result<Vec<HitResult<'a>, A>, Fail> {
     let mut results = Vec::new(alloc);
     for result in hit.results() {
         results.push(result)?;
@@ -123,7 +123,7 @@ fn queries(rt: HostRuntime) -> Result<(), Fail> {
 type Encoded<'a> = (u8, &'a [u8], &'a [u8]);
 
 /// Whether a Query Hit has so many results, these bytes of them, and these after them; and what all here have.
-fn has_fields(hit: &QueryHit<'_>, encoded: Encoded<'_>) -> bool {
+fn has_fields(hit: &Hit<'_>, encoded: Encoded<'_>) -> bool {
     let (count, result_bytes, trailer) = encoded;
     (hit.hits(), hit.port(), hit.speed()) == (count, 6346, 28)
         && (hit.ip(), hit.servent()) == ([127, 0, 0, 2], SERVENT)
@@ -132,7 +132,7 @@ fn has_fields(hit: &QueryHit<'_>, encoded: Encoded<'_>) -> bool {
 }
 
 /// Whether these are the results of a Query Hit.
-fn has_results(alloc: Global, hit: &QueryHit<'_>, wanted: &[HitResult<'_>]) -> Result<bool, Fail> {
+fn has_results(alloc: Global, hit: &Hit<'_>, wanted: &[HitResult<'_>]) -> Result<bool, Fail> {
     let results = listed(alloc, hit)?;
     let are_wanted = results.as_slice() == wanted;
     drop(results);
@@ -207,5 +207,24 @@ fn hits(rt: HostRuntime) -> Result<(), Fail> {
             "{count} results"
         );
     }
+    Ok(())
+}
+
+/// Whether a Query's payload of this text is read of these bytes.
+fn is_query(bytes: &[u8], text: &[u8]) -> bool {
+    match read_payload(Kind::Query, bytes) {
+        Some(Payload::Query(query)) => query.text == text,
+        _ => false,
+    }
+}
+
+#[test]
+fn payloads_by_kind(rt: HostRuntime) -> Result<(), Fail> {
+    let query = b"\0\0x\0";
+    assert!(rt; is_query(query, b"x"));
+    assert!(rt; read_payload(Kind::Pong, query).is_none());
+    assert!(rt; matches!(read_payload(Kind::Ping, b""), Some(Payload::Ping)));
+    assert!(rt; read_payload(Kind::Ping, query).is_none());
+    assert!(rt; read_payload(Kind::Unknown(2), query).is_none());
     Ok(())
 }

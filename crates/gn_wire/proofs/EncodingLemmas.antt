@@ -4,7 +4,7 @@ use Rattle.std.proofs.lemmas.Bool.Decides.{nat_tests}
 use Rattle.std.proofs.lemmas.List.{take_at, drop_at, append-nil}
 use Rattle.byteorder.specs.Endian.{little_bytes}
 use Rattle.gn_wire.specs.declared.kind.Kind.{Kind}
-use Rattle.gn_wire.specs.declared.kind.Kind.TheVariants.{Ping, Pong, Push, Query, QueryHit, Unknown}
+use Rattle.gn_wire.specs.declared.kind.Kind.TheVariants.{Unknown}
 use Rattle.gn_wire.specs.declared.header.Header.{Header}
 use Rattle.gn_wire.specs.declared.kind.Guid.{Guid}
 use Rattle.gn_wire.specs.Packet.{code_of, fault_of, IsDescriptor, Packet}
@@ -13,12 +13,8 @@ use Rattle.gn_wire.proofs.HeaderLemmas.{header_at-header_bytes}
 
 -- a valid payload has a length that a u32 holds
 pub valid_short : (kind : Kind) (n : ℕ) → fault_of kind n ≡ None → n < 2 ^ 32
-valid_short Ping n e = grind (arith, nat_tests)
-valid_short Pong n e = grind (arith, nat_tests)
-valid_short Push n e = grind (arith, nat_tests)
-valid_short Query n e = grind (arith, nat_tests)
-valid_short QueryHit n e = grind (arith, nat_tests)
 valid_short (Unknown code) n e = grind (arith, nat_tests)
+valid_short kind n e = grind (arith, nat_tests)
 
 pub length-header_bytes : (h : Header) → length h.id.0 ≡ 16 → length (header_bytes h) ≡ 23
 length-header_bytes h e =

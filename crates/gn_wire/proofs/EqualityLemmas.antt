@@ -6,10 +6,10 @@ use Rattle.std.proofs.lemmas.Map.Views.{exact_unsigned_eq}
 use Rattle.gn_wire.specs.declared.key.Key.{Key}
 use Rattle.gn_wire.specs.declared.kind.Guid.{Guid}
 use Rattle.gn_wire.specs.declared.kind.Kind.{Kind}
-use Rattle.gn_wire.specs.declared.kind.Kind.TheVariants.{Ping, Pong, Push, Query, QueryHit, Unknown}
+use Rattle.gn_wire.specs.declared.kind.Kind.TheVariants.{Unknown}
 use Rattle.gn_wire.specs.Equality.{SameIsEqual}
 use Rattle.gn_wire.specs.Keys.{is_same_key, is_same_packet, key_of, kind_numbers}
-use Rattle.gn_wire.specs.Packet.{Packet}
+use Rattle.gn_wire.specs.Packet.{Packet, kind_of}
 
 both : (a b : Bool) → (a && b) ≡ true → (a ≡ true) × (b ≡ true)
 both true b h = (refl, h)
@@ -17,22 +17,16 @@ both false b h = cc
 
 -- a kind and what follows it, read from their numbers
 abbrev unknown_from : List ℕ → Kind × List ℕ
-unknown_from [] = (Ping, [])
+unknown_from [] = (Unknown 0, [])
 unknown_from (code ∷ rest) = (Unknown code, rest)
 
 abbrev kind_from : List ℕ → Kind × List ℕ
-kind_from [] = (Ping, [])
-kind_from (n ∷ rest) =
-    if n == 0 then (Ping, rest) else if n == 1 then (Pong, rest) else if n == 2 then (Push, rest)
-    else if n == 3 then (Query, rest) else if n == 4 then (QueryHit, rest) else unknown_from rest
+kind_from [] = (Unknown 0, [])
+kind_from (n ∷ rest) = if n == 256 then unknown_from rest else (kind_of n, rest)
 
 kind_read : (k : Kind) (rest : List ℕ) → kind_from (kind_numbers k ++ rest) ≡ (k, rest)
-kind_read Ping rest = refl
-kind_read Pong rest = refl
-kind_read Push rest = refl
-kind_read Query rest = refl
-kind_read QueryHit rest = refl
 kind_read (Unknown code) rest = refl
+kind_read k rest = refl
 
 same_numbers : (a b : Key) → is_same_key a b ≡ true → ◌≡◌ {A = Kind × List ℕ} (a.kind, a.id.0) (b.kind, b.id.0)
 same_numbers a b h = sym (kind_read a.kind a.id.0) ∙ ap kind_from ((bytes_decides (kind_numbers a.kind ++ a.id.0) (kind_numbers b.kind ++ b.id.0)).0 h) ∙ kind_read b.kind b.id.0

@@ -4,21 +4,17 @@ use lib.Pointwise.{pointwise}
 use Rattle.gn_wire.specs.declared.key.Key.{Key}
 use Rattle.gn_wire.specs.declared.kind.Guid.{Guid}
 use Rattle.gn_wire.specs.declared.kind.Kind.{Kind}
-use Rattle.gn_wire.specs.declared.kind.Kind.TheVariants.{Ping, Pong, Push, Query, QueryHit, Unknown}
-use Rattle.gn_wire.specs.Packet.{Packet}
+use Rattle.gn_wire.specs.declared.kind.Kind.TheVariants.{Unknown}
+use Rattle.gn_wire.specs.Packet.{Packet, code_of}
 
 -- two IDs are the same, byte by byte
 abbrev pub is_same_id : Guid → Guid → Bool
 is_same_id a b = pointwise nat_eq a.0 b.0
 
--- a kind as numbers, by which kinds are compared: unknown kinds differ by their payload descriptors
+-- a kind as numbers, by which kinds are compared: its payload descriptor, after 256 if it is unknown
 abbrev pub kind_numbers : Kind → List ℕ
-kind_numbers Ping = 0 ∷ []
-kind_numbers Pong = 1 ∷ []
-kind_numbers Push = 2 ∷ []
-kind_numbers Query = 3 ∷ []
-kind_numbers QueryHit = 4 ∷ []
-kind_numbers (Unknown code) = 5 ∷ code ∷ []
+kind_numbers (Unknown code) = 256 ∷ code ∷ []
+kind_numbers kind = code_of kind ∷ []
 
 -- two keys are the same where kind and ID are
 abbrev pub is_same_key : Key → Key → Bool

@@ -4,6 +4,7 @@ pub use Rattle.gn_wire.specs.declared.kind.Kind
 pub use Rattle.gn_wire.specs.declared.key.Key
 pub use Rattle.gn_wire.specs.declared.header.Header
 pub use Rattle.gn_wire.specs.declared.header.FrameFault
+pub use Rattle.gn_payload.specs.declared.payload.Payload
 pub use Rattle.gn_payload.specs.declared.pong.Pong
 pub use Rattle.gn_payload.specs.declared.push.Push
 pub use Rattle.gn_payload.specs.declared.checked.Verdict

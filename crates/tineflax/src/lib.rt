@@ -14,9 +14,9 @@ pub mod wire {
 /// The payloads of Pong, Query, Query Hit and Push, read and written.
 pub mod payload {
     pub use gn_payload::{
-        Checked, HitResult, Pong, Push, Query, QueryHit, Results, Verdict, WriteRefusal,
-        one_reading, read_hit, read_pong, read_push, read_query, sound_is_read, write_hit,
-        write_pong, write_push, write_query,
+        Checked, Hit, HitResult, Payload, Pong, Push, Query, Results, Verdict, WriteRefusal,
+        one_reading, read_hit, read_payload, read_pong, read_push, read_query,
+        readings_are_grammar, sound_is_read, write_hit, write_pong, write_push, write_query,
     };
 }
 

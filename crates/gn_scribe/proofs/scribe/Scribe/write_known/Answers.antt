@@ -13,7 +13,7 @@ pop_known-step-requires g c =
 
 pub loop-preserved : goal.loop-preserved
 loop-preserved g c =
-    writing_next c.args.self.now c.loop.self (record { steps = c.pop_known-step.new.self; block = c.loop.self.block; line = c.loop.self.line; is_begun = true }) _ (g.W.Sink.state c.args.sink.now) (g.W.Sink.state c.loop.sink) (g.W.Sink.state c.print_step-printed.new.sink)
+    writing_next c.args.self.now c.loop.self (record { steps = c.pop_known-step.new.self; block = c.loop.self.block; is_begun = true }) _ (g.W.Sink.state c.args.sink.now) (g.W.Sink.state c.loop.sink) (g.W.Sink.state c.print_step-printed.new.sink)
     c.loop.counter c.pop_known-step.result c.loop.invariant c.pop_known-step.ensures.ring c.pop_known-step.ensures.received.0 c.pop_known-step.ensures.received.1 refl
     c.in_ok-printed.ensures.ok c.in_ok-printed.ensures.small c.in_ok-printed.ensures.writes refl
 
@@ -27,7 +27,7 @@ pub returns-in_err-printed-clause-err : goal.returns-in_err-printed-clause-err
 returns-in_err-printed-clause-err g c =
     on_err c.from_residual.result
     (broken_after c.args.self.now c.loop.self _ (g.W.Sink.state c.args.sink.now) (g.W.Sink.state c.loop.sink) (g.W.Sink.state c.print_step-printed.new.sink) c.loop.invariant.so_far
-    (line_cut c.loop.self (record { steps = c.pop_known-step.new.self; block = c.loop.self.block; line = c.loop.self.line; is_begun = true }) _ (g.W.Sink.state c.loop.sink) (g.W.Sink.state c.print_step-printed.new.sink)
+    (line_cut c.loop.self (record { steps = c.pop_known-step.new.self; block = c.loop.self.block; is_begun = true }) _ (g.W.Sink.state c.loop.sink) (g.W.Sink.state c.print_step-printed.new.sink)
     c.pop_known-step.result c.pop_known-step.ensures.ring c.pop_known-step.ensures.received.0 refl c.in_err-printed.ensures.err))
 
 pub returns-in_err-printed-clause-cause : goal.returns-in_err-printed-clause-cause

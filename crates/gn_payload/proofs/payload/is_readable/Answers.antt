@@ -2,7 +2,7 @@ use Rattle.std.proofs.Common.{sym, ap, ◌∙◌}
 use Rattle.gn_payload.specs.Reading.{has_reading}
 use Rattle.gn_payload.specs.Views.{query_fields}
 use Rattle.gn_payload.proofs.SoundLemmas.{hit_tested, query_tested}
-use Rattle.gn_payload.proofs.checked.is_readable.Goals as goal
+use Rattle.gn_payload.proofs.payload.is_readable.Goals as goal
 
 pub returns-in-Query : goal.returns-in-Query
 returns-in-Query c =

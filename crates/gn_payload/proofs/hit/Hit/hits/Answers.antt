@@ -1,7 +1,7 @@
 use Rattle.std.proofs.Common.{◌∙◌, length, sym, ap}
 use Rattle.gn_payload.specs.Fields.{HitFields}
 use Rattle.gn_payload.proofs.ResultGrammar.{just_are}
-use Rattle.gn_payload.proofs.hit.QueryHit.hits.Goals as goal
+use Rattle.gn_payload.proofs.hit.Hit.hits.Goals as goal
 
 pub returns : goal.returns
 returns c =

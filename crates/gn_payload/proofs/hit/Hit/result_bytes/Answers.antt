@@ -2,7 +2,7 @@ use Rattle.std.proofs.Common.{[], subst}
 use Rattle.gn_payload.specs.Fields.{HitFields}
 use Rattle.gn_payload.specs.Grammar.{AreResults}
 use Rattle.gn_payload.proofs.ResultGrammar.{just_are}
-use Rattle.gn_payload.proofs.hit.QueryHit.result_bytes.Goals as goal
+use Rattle.gn_payload.proofs.hit.Hit.result_bytes.Goals as goal
 
 pub returns : goal.returns
 returns c =
