@@ -52,14 +52,32 @@ def whole(least, most):
     return read
 
 
+def open_streams():
+    """Standard streams that are closed are opened on the null device, as gn does."""
+    for name, mode in (("stdin", "r"), ("stdout", "w"), ("stderr", "w")):
+        if getattr(sys, name) is None:
+            setattr(sys, name, open(os.devnull, mode, encoding="utf-8"))
+
+
+def flush():
+    """Writes what is left in the buffer. Where it can't be written it goes nowhere, so that the interpreter's own flush has nothing
+    to say."""
+    try:
+        sys.stdout.flush()
+    except OSError:
+        os.dup2(os.open(os.devnull, os.O_WRONLY), sys.stdout.fileno())
+        raise
+
+
 def run(main):
     """Runs a script to its end. A reader that goes away ends it in silence, as does an interrupt."""
+    open_streams()
     try:
-        status = main()
-        sys.stdout.flush()
+        try:
+            status = main()
+        finally:
+            flush()
     except BrokenPipeError:
-        # what is left in the buffer goes nowhere, so that the interpreter's own flush has nothing to say
-        os.dup2(os.open(os.devnull, os.O_WRONLY), sys.stdout.fileno())
         status = 141
     except KeyboardInterrupt:
         status = 130
