@@ -72,6 +72,8 @@ def flush():
 def run(main):
     """Runs a script to its end. A reader that goes away ends it in silence, as does an interrupt."""
     open_streams()
+    # names of files are said as they are, also where they are no text
+    sys.stdout.reconfigure(errors="surrogateescape")
     try:
         try:
             status = main()
