@@ -59,7 +59,11 @@ def frames(source):
     if magic in PCAP:
         yield from frames_of_pcap(source, *PCAP[magic])
     elif magic == SECTION:
-        yield from frames_of_pcapng(source)
+        try:
+            yield from frames_of_pcapng(source)
+        except (IndexError, ValueError, struct.error):
+            # a block that is too short for what it has to say, or of an interface that isn't there
+            fail(f"{source.name}: a block of the file can't be read")
     else:
         fail(f"{source.name}: it is no pcap and no pcapng file")
 
@@ -111,13 +115,14 @@ def frames_of_pcapng(source):
             at, high, low, size, whole = struct.unpack(order + "IIIII", body[:20])
             layer, units, _ = interfaces[at]
             latest = (high << 32 | low) * 10**6 // units
-            yield Frame(latest, layer, body[20 : 20 + size], size == whole)
+            data = body[20 : 20 + size]
+            yield Frame(latest, layer, data, len(data) == whole)
         elif number == SIMPLE:
             # it has no time of its own
             whole = struct.unpack(order + "I", body[:4])[0]
             layer, _, most = interfaces[0]
-            size = min(whole, most or whole)
-            yield Frame(latest, layer, body[4 : 4 + size], size == whole)
+            data = body[4 : 4 + min(whole, most or whole)]
+            yield Frame(latest, layer, data, len(data) == whole)
 
 
 def packet_of(frame):
