@@ -28,6 +28,9 @@ FIN, SYN, RST, ACK = 1, 2, 4, 16
 TCP = 6
 # The headers of IPv6 that may stand before that of TCP: options, routing, and destination's.
 EXTENSIONS = (0, 43, 60)
+FRAGMENT = 44
+# The least bytes of an IP packet's header, by its version.
+LEAST = {4: 20, 6: 40}
 
 Frame = namedtuple("Frame", "micros layer data is_whole")
 Segment = namedtuple("Segment", "micros source to number confirmed flags data")
@@ -138,34 +141,46 @@ def packet_of(frame):
     return data[size:]
 
 
+def refuse_cut(frame):
+    """Ends the program where a frame that isn't there whole is a frame that was cut."""
+    if not frame.is_whole:
+        fail("the packets were cut when they were captured; tcpdump -s 0 keeps them whole")
+
+
+def internet_of(packet):
+    """What the header of an IP packet says: the protocol, where its data begins, where it ends, whence and whither it goes, and
+    whether it is a fragment."""
+    if packet[0] >> 4 == 4:
+        # a length of 0 stands where the card cut the packet up only later
+        length = int.from_bytes(packet[2:4], "big") or len(packet)
+        is_fragment = int.from_bytes(packet[6:8], "big") & 0x3FFF != 0
+        return packet[9], (packet[0] & 15) * 4, length, packet[12:16], packet[16:20], is_fragment
+    protocol, size = packet[6], 40
+    length = 40 + int.from_bytes(packet[4:6], "big") if packet[4:6] != b"\0\0" else len(packet)
+    while protocol in EXTENSIONS and size + 2 <= len(packet):
+        protocol, size = packet[size], size + 8 + packet[size + 1] * 8
+    return protocol, size, length, packet[8:24], packet[24:40], protocol == FRAGMENT
+
+
 def segment_of(frame):
     """The TCP segment of a frame, None where it has none, and whether it is a fragment of one."""
     packet = packet_of(frame)
-    if not packet:
+    least = LEAST.get(packet[0] >> 4) if packet else None
+    if least is None:
         return None, False
-    if packet[0] >> 4 == 4:
-        size, protocol = (packet[0] & 15) * 4, packet[9]
-        # a length of 0 stands where the card cut the packet up only later
-        length = int.from_bytes(packet[2:4], "big") or len(packet)
-        source, to = packet[12:16], packet[16:20]
-        is_fragment = int.from_bytes(packet[6:8], "big") & 0x3FFF != 0
-    elif packet[0] >> 4 == 6:
-        size, protocol = 40, packet[6]
-        length = 40 + int.from_bytes(packet[4:6], "big") if packet[4:6] != b"\0\0" else len(packet)
-        source, to, is_fragment = packet[8:24], packet[24:40], protocol == 44
-        while protocol in EXTENSIONS:
-            protocol, size = packet[size], size + 8 + packet[size + 1] * 8
-    else:
+    if len(packet) < least:
+        refuse_cut(frame)
         return None, False
+    protocol, size, length, source, to, is_fragment = internet_of(packet)
     if protocol != TCP or is_fragment:
         return None, is_fragment
+    if len(packet) < length:
+        refuse_cut(frame)
     head = packet[size : size + 20]
     if len(head) < 20:
         return None, False
     source_port, to_port, number, confirmed, offset, flags = struct.unpack("!HHIIBB", head[:14])
     data = packet[size + (offset >> 4) * 4 : length]
-    if not frame.is_whole and len(packet) < length:
-        fail("the packets were cut when they were captured; tcpdump -s 0 keeps them whole")
     return Segment(frame.micros, (source, source_port), (to, to_port), number, confirmed, flags, data), False
 
 
