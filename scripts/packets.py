@@ -190,10 +190,27 @@ def after(number, other):
 
 
 class Direction:
-    """What one end of a stream sends: the number of the byte that is due, and what came before its turn."""
+    """What one end of a stream sends: the number of the byte that is due, what came before its turn, and where it ends, if it does."""
 
     def __init__(self):
-        self.due, self.early, self.missing = None, {}, 0
+        self.due, self.early, self.end, self.missing = None, {}, None, 0
+
+    @property
+    def gap(self):
+        """How many bytes are missing before whatever came early, be it the end."""
+        ahead = [after(it, self.due) for it in (*self.early, *([] if self.end is None else [self.end]))]
+        return self.missing or max(0, min(ahead, default=0))
+
+    @property
+    def is_over(self):
+        """Whether nothing comes any more: the end is there, and all before it that ever comes."""
+        return self.end is not None and (self.missing > 0 or after(self.end, self.due) <= 0)
+
+    def finish(self, number):
+        """It ends before this number."""
+        if self.due is None:
+            self.due = number
+        self.end = number
 
     def take(self, number, data):
         """The bytes that are in order now."""
@@ -219,8 +236,8 @@ class Direction:
 
     def confirm(self, number):
         """The other end has all before this number: what the file lacks of it never comes."""
-        if self.early and not self.missing and after(number, self.due) > 0:
-            self.missing = min(after(it, self.due) for it in self.early)
+        if (self.early or self.end is not None) and after(number, self.due) > 0:
+            self.missing = self.gap
             self.early = {}
 
 
@@ -243,6 +260,26 @@ BEGINNING = 64
 Event = namedtuple("Event", "micros stream what sender data")
 
 
+def beginnings(streams, ends, segment):
+    """What it is that a segment begins a stream, if it does: the first one of its ends, or a further call between these."""
+    former, is_call = streams.get(ends), segment.flags & (SYN | ACK) == SYN
+    is_known = former is not None and (former.first_number is not None or former.finished)
+    if former is None or (is_call and is_known and former.first_number != segment.number):
+        stream = streams[ends] = Stream(*ends)
+        if not is_call:
+            yield Event(segment.micros, stream, "found", None, b"")
+
+
+def closings(stream, segment):
+    """The ends of a stream that send no more with this segment: by a reset at once, else once all before the end is there."""
+    for end in stream.ends:
+        is_reset = end == segment.source and segment.flags & RST
+        if (is_reset or stream.directions[end].is_over) and end not in stream.finished and not stream.is_reset:
+            stream.finished.add(end)
+            stream.is_reset = bool(is_reset)
+            yield Event(segment.micros, stream, "closed", end, b"")
+
+
 def events(source):
     """What happens in the streams of a file, in its order: `opened`, `data` of a sender, `closed` where either end sends no more."""
     streams, fragments = {}, 0
@@ -252,33 +289,26 @@ def events(source):
         if segment is None:
             continue
         micros, sender, to, number, confirmed, flags, data = segment
-        key = (sender, to) if sender < to else (to, sender)
-        stream = streams.get(key)
-        is_call = flags & (SYN | ACK) == SYN
-        if stream is None or (is_call and stream.first_number != number and (stream.first_number is not None or stream.finished)):
-            stream = streams[key] = Stream(*key)
-            if not is_call:
-                yield Event(micros, stream, "found", None, b"")
+        ends = (sender, to) if sender < to else (to, sender)
+        yield from beginnings(streams, ends, segment)
+        stream = streams[ends]
         direction = stream.directions[sender]
         if flags & SYN:
-            if is_call and stream.caller is None:
+            if not flags & ACK and stream.caller is None:
                 stream.caller, stream.first_number = sender, number
                 yield Event(micros, stream, "opened", sender, b"")
-            if direction.due is None:
-                direction.due = (number + 1) % 2**32
             number = (number + 1) % 2**32
+            if direction.due is None:
+                direction.due = number
         if flags & ACK:
             stream.directions[to].confirm(confirmed)
-        if data:
-            ready = direction.take(number, data)
-            if ready:
-                if len(stream.begins[sender]) < BEGINNING:
-                    stream.begins[sender] += ready[:BEGINNING]
-                yield Event(micros, stream, "data", sender, ready)
-        if flags & (FIN | RST) and sender not in stream.finished and not stream.is_reset:
-            stream.finished.add(sender)
-            stream.is_reset = bool(flags & RST)
-            yield Event(micros, stream, "closed", sender, b"")
+        ready = direction.take(number, data) if data else b""
+        if ready:
+            stream.begins[sender] += ready[:BEGINNING] if len(stream.begins[sender]) < BEGINNING else b""
+            yield Event(micros, stream, "data", sender, ready)
+        if flags & FIN:
+            direction.finish((number + len(data)) % 2**32)
+        yield from closings(stream, segment)
     if fragments:
         yield Event(0, None, "fragments", None, fragments)
 
