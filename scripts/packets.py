@@ -266,6 +266,9 @@ def beginnings(streams, ends, segment):
     is_known = former is not None and (former.first_number is not None or former.finished)
     if former is None or (is_call and is_known and former.first_number != segment.number):
         stream = streams[ends] = Stream(*ends)
+        if former and not former.finished:
+            # who calls anew has nothing more to say in the stream before
+            yield Event(segment.micros, former, "closed", segment.source, b"")
         if not is_call:
             yield Event(segment.micros, stream, "found", None, b"")
 
