@@ -17,8 +17,10 @@ PCAP = {
     b"\xa1\xb2\x3c\x4d": (">", 10**9),
 }
 SECTION = b"\x0a\x0d\x0d\x0a"
-INTERFACE, SIMPLE, ENHANCED = 1, 3, 6
-RESOLUTION = 9
+INTERFACE, SIMPLE = 1, 3
+# Blocks of packets with their time, those of older files too: the interface, the time's halves, the lengths that are there and were.
+TIMED = {2: "HxxIIII", 6: "IIIII"}
+RESOLUTION, OFFSET = 9, 14
 # What a frame has before its IP packet, by the link layer's number: the length, and where the protocol stands, -1 where nowhere.
 ETHERNET = 1
 LAYERS = {ETHERNET: (14, 12), 113: (16, 14), 276: (20, 0), 0: (4, -1), 108: (4, -1), 12: (0, -1), 14: (0, -1), 101: (0, -1), 228: (0, -1), 229: (0, -1)}
@@ -95,35 +97,37 @@ def blocks(source):
         number = source.read_or_end(4)
 
 
-def units_of(order, options):
-    """The units a second of an interface's clock, by its options."""
+def clock_of(order, options):
+    """The units a second of an interface's clock, and when it began, in seconds since 1970, by its options."""
+    units, began = 10**6, 0
     while len(options) >= 4:
         code, size = struct.unpack(order + "HH", options[:4])
         if code == RESOLUTION and size == 1:
-            power = options[4]
-            return 2 ** (power & 0x7F) if power & 0x80 else 10**power
+            units = 2 ** (options[4] & 0x7F) if options[4] & 0x80 else 10 ** options[4]
+        elif code == OFFSET and size == 8:
+            began = struct.unpack(order + "q", options[4:12])[0]
         options = options[4 + size + -size % 4 :]
-    return 10**6
+    return units, began
 
 
 def frames_of_pcapng(source):
-    interfaces, latest = [], 0
+    interfaces, latest = [], None
     for order, number, body in blocks(source):
         if number == SECTION:
             interfaces = []
         elif number == INTERFACE:
             layer, _, most = struct.unpack(order + "HHI", body[:8])
-            interfaces.append((layer, units_of(order, body[8:]), most))
-        elif number == ENHANCED:
-            at, high, low, size, whole = struct.unpack(order + "IIIII", body[:20])
-            layer, units, _ = interfaces[at]
-            latest = (high << 32 | low) * 10**6 // units
+            interfaces.append((layer, most, *clock_of(order, body[8:])))
+        elif number in TIMED:
+            at, high, low, size, whole = struct.unpack(order + TIMED[number], body[:20])
+            layer, _, units, began = interfaces[at]
+            latest = began * 10**6 + (high << 32 | low) * 10**6 // units
             data = body[20 : 20 + size]
             yield Frame(latest, layer, data, len(data) == whole)
         elif number == SIMPLE:
             # it has no time of its own
             whole = struct.unpack(order + "I", body[:4])[0]
-            layer, _, most = interfaces[0]
+            layer, most, _, _ = interfaces[0]
             data = body[4 : 4 + min(whole, most or whole)]
             yield Frame(latest, layer, data, len(data) == whole)
 
