@@ -45,7 +45,7 @@ def whole(least, most):
     """Reads a whole number within limits, for an option."""
 
     def read(text):
-        if not (text.isascii() and text.isdigit() and least <= int(text[:12]) <= most):
+        if not (text.isascii() and text.isdigit() and len(text) <= 12 and least <= int(text) <= most):
             raise argparse.ArgumentTypeError(f"takes a number of {least} to {most}")
         return int(text)
 
