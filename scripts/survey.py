@@ -78,7 +78,8 @@ class Survey:
             if self.series is None:
                 self.first_time = history.time
                 self.series = Series(STEP if history.time is None else MILLISECOND, len(NAMES) + 1)
-            self.at = self.steps if self.first_time is None else history.time - self.first_time
+            # a clock that was set back stands still until it has caught up
+            self.at = self.steps if self.first_time is None else max(self.at, history.time - self.first_time)
             self.steps += 1
             word, _, rest = reply.partition(" ")
             self.counters[rest if word == "dropped" else word] += 1
