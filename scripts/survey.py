@@ -106,8 +106,8 @@ class Survey:
         self.ttls[ttl][place] += 1
         if word == "admitted":
             neighbour.admitted += 1
-            key = packet[:32]
-            self.flights[rest] = neighbour, code, key
+            key = packet[:32].lower()
+            self.flights[int(rest)] = neighbour, code, key
             if code == 0x80 and self.reached.get(key, 256) > hops:
                 self.reached[key] = hops
         else:
@@ -116,7 +116,7 @@ class Survey:
             self.losses[word] += 1
 
     def route(self, event, word, rest):
-        neighbour, code, key = self.flights.pop(event[1], (None, None, None))
+        neighbour, code, key = self.flights.pop(int(event[1]), (None, None, None))
         if word == "dropped":
             self.losses[rest] += 1
             self.series.row(self.at)[-1] += 1
