@@ -22,8 +22,7 @@ INTERFACE, SIMPLE = 1, 3
 TIMED = {2: "HxxIIII", 6: "IIIII"}
 RESOLUTION, OFFSET = 9, 14
 # What a frame has before its IP packet, by the link layer's number: the length, and where the protocol stands, -1 where nowhere.
-ETHERNET = 1
-LAYERS = {ETHERNET: (14, 12), 113: (16, 14), 276: (20, 0), 0: (4, -1), 108: (4, -1), 12: (0, -1), 14: (0, -1), 101: (0, -1), 228: (0, -1), 229: (0, -1)}
+LAYERS = {1: (14, 12), 113: (16, 14), 276: (20, 0), 0: (4, -1), 108: (4, -1), 12: (0, -1), 14: (0, -1), 101: (0, -1), 228: (0, -1), 229: (0, -1)}
 VLANS = (b"\x81\x00", b"\x88\xa8")
 INTERNET = (b"\x08\x00", b"\x86\xdd")
 FIN, SYN, RST, ACK = 1, 2, 4, 16
@@ -138,7 +137,8 @@ def packet_of(frame):
         fail(f"frames of link layer {frame.layer} can't be read")
     size, at = LAYERS[frame.layer]
     data = frame.data
-    while frame.layer == ETHERNET and data[at : at + 2] in VLANS:
+    # a tag stands where the protocol ends the header: of Ethernet, and of Linux' first one
+    while at + 2 == size and data[at : at + 2] in VLANS:
         size, at = size + 4, at + 4
     if at >= 0 and data[at : at + 2] not in INTERNET:
         return None
