@@ -32,6 +32,8 @@ EXTENSIONS = (0, 43, 60)
 FRAGMENT = 44
 # The least bytes of an IP packet's header, by its version.
 LEAST = {4: 20, 6: 40}
+# A length of 0 stands where the card cut the packet up only later: such a packet is as long as its frame.
+UNSAID = 2**32
 
 Frame = namedtuple("Frame", "micros layer data is_whole")
 Segment = namedtuple("Segment", "micros source to number confirmed flags data")
@@ -155,12 +157,11 @@ def internet_of(packet):
     """What the header of an IP packet says: the protocol, where its data begins, where it ends, whence and whither it goes, and
     whether it is a fragment."""
     if packet[0] >> 4 == 4:
-        # a length of 0 stands where the card cut the packet up only later
-        length = int.from_bytes(packet[2:4], "big") or len(packet)
+        length = int.from_bytes(packet[2:4], "big") or UNSAID
         is_fragment = int.from_bytes(packet[6:8], "big") & 0x3FFF != 0
         return packet[9], (packet[0] & 15) * 4, length, packet[12:16], packet[16:20], is_fragment
     protocol, size = packet[6], 40
-    length = 40 + int.from_bytes(packet[4:6], "big") if packet[4:6] != b"\0\0" else len(packet)
+    length = 40 + int.from_bytes(packet[4:6], "big") if packet[4:6] != b"\0\0" else UNSAID
     while protocol in EXTENSIONS and size + 2 <= len(packet):
         protocol, size = packet[size], size + 8 + packet[size + 1] * 8
     return protocol, size, length, packet[8:24], packet[24:40], protocol == FRAGMENT
