@@ -65,19 +65,19 @@ def legend(names):
     return f'<p class="legend">{"".join(items)}</p>'
 
 
-def areas(title, x_label, edges, rows, names, most=None):
+def areas(title, x_label, edges, rows, names, most=None, end=None):
     """Stacked areas: `rows` has a number for each name, from each of the edges to the next."""
-    peak = max(map(sum, rows), default=0)
-    plot = Plot(title, most or peak, x_label, edges[0], edges[-1])
+    peak, end = max(map(sum, rows), default=0), end or edges[-1]
+    plot = Plot(title, most or peak, x_label, edges[0], end)
     below = [0] * len(rows)
     for at, name in enumerate(names):
         above = [base + row[at] for base, row in zip(below, rows)]
         if above != below:
             plot.parts.append(area(plot, edges, below, above, colour_of(at, names), name))
         below = above
-    step = nice_step(edges[-1] - edges[0], 5)
+    step = nice_step(end - edges[0], 5)
     value = ceil(edges[0] / step) * step
-    while value <= edges[-1] * 1.0001:
+    while value <= end * 1.0001:
         plot.parts.append(text(plot.x(value), HEIGHT - BOTTOM + 15, said(round(value, 9))))
         value += step
     return plot.svg()

@@ -45,21 +45,41 @@ def whole(least, most):
     """Reads a whole number within limits, for an option."""
 
     def read(text):
-        if not (text.isascii() and text.isdigit() and least <= int(text[:12]) <= most):
+        if not (text.isascii() and text.isdigit() and len(text) <= 12 and least <= int(text) <= most):
             raise argparse.ArgumentTypeError(f"takes a number of {least} to {most}")
         return int(text)
 
     return read
 
 
+def open_streams():
+    """Standard streams that are closed are opened on the null device, as gn does."""
+    for name, mode in (("stdin", "r"), ("stdout", "w"), ("stderr", "w")):
+        if getattr(sys, name) is None:
+            setattr(sys, name, open(os.devnull, mode, encoding="utf-8"))
+
+
+def flush():
+    """Writes what is left in the buffer. Where it can't be written it goes nowhere, so that the interpreter's own flush has nothing
+    to say."""
+    try:
+        sys.stdout.flush()
+    except OSError:
+        os.dup2(os.open(os.devnull, os.O_WRONLY), sys.stdout.fileno())
+        raise
+
+
 def run(main):
     """Runs a script to its end. A reader that goes away ends it in silence, as does an interrupt."""
+    open_streams()
+    # names of files are said as they are, also where they are no text
+    sys.stdout.reconfigure(errors="surrogateescape")
     try:
-        status = main()
-        sys.stdout.flush()
+        try:
+            status = main()
+        finally:
+            flush()
     except BrokenPipeError:
-        # what is left in the buffer goes nowhere, so that the interpreter's own flush has nothing to say
-        os.dup2(os.open(os.devnull, os.O_WRONLY), sys.stdout.fileno())
         status = 141
     except KeyboardInterrupt:
         status = 130

@@ -87,9 +87,9 @@ class Router:
             offer = Offer(int(event[1]), Packet(event[2]), index, words[0])
             self.offers[offer.connection].append(offer)
             if offer.is_admitted:
-                self.flights[words[1]] = offer
+                self.flights[int(words[1])] = offer
         elif event[0] == "route":
-            offer = self.flights.get(event[1])
+            offer = self.flights.get(int(event[1]))
             if offer is None:
                 fail(f"{self.name}: step {index} routes what wasn't admitted")
             self.route(offer, index, words[:2], sends)

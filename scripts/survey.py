@@ -78,7 +78,8 @@ class Survey:
             if self.series is None:
                 self.first_time = history.time
                 self.series = Series(STEP if history.time is None else MILLISECOND, len(NAMES) + 1)
-            self.at = self.steps if self.first_time is None else history.time - self.first_time
+            # a clock that was set back stands still until it has caught up
+            self.at = self.steps if self.first_time is None else max(self.at, history.time - self.first_time)
             self.steps += 1
             word, _, rest = reply.partition(" ")
             self.counters[rest if word == "dropped" else word] += 1
@@ -105,8 +106,8 @@ class Survey:
         self.ttls[ttl][place] += 1
         if word == "admitted":
             neighbour.admitted += 1
-            key = packet[:32]
-            self.flights[rest] = neighbour, code, key
+            key = packet[:32].lower()
+            self.flights[int(rest)] = neighbour, code, key
             if code == 0x80 and self.reached.get(key, 256) > hops:
                 self.reached[key] = hops
         else:
@@ -115,7 +116,7 @@ class Survey:
             self.losses[word] += 1
 
     def route(self, event, word, rest):
-        neighbour, code, key = self.flights.pop(event[1], (None, None, None))
+        neighbour, code, key = self.flights.pop(int(event[1]), (None, None, None))
         if word == "dropped":
             self.losses[rest] += 1
             self.series.row(self.at)[-1] += 1
