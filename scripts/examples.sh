@@ -10,11 +10,11 @@ failed=0
 if [ "$gn" = --copy ]; then
 	find crates/gn_examples/data -maxdepth 1 -type f -delete
 	rm -f crates/gn_examples/data/conformance/*
-	find examples -maxdepth 1 -type f ! -name '*.pcap' -exec cp -t crates/gn_examples/data {} +
+	find examples -maxdepth 1 -type f ! -name '*.pcap' ! -name '*.service' -exec cp -t crates/gn_examples/data {} +
 	find examples/conformance -type f ! -name README.md -exec cp -t crates/gn_examples/data/conformance {} +
 	exit
 fi
-if ! diff -r -x '*.pcap' -x cases -x README.md examples crates/gn_examples/data >&2; then
+if ! diff -r -x '*.pcap' -x '*.service' -x cases -x README.md examples crates/gn_examples/data >&2; then
 	echo 'examples/ and crates/gn_examples/data differ: scripts/examples.sh --copy' >&2
 	failed=1
 fi
