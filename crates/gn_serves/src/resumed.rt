@@ -45,6 +45,15 @@ struct Before {
     second: u32,
 }
 
+/// Whether this is answered, and as before, where that is known.
+fn is_as_before<A: Allocator>(recall: &Recall<A>, answer: &Result<Receipt<A>, Refusal>) -> bool {
+    match (&recall.reply, answer) {
+        (_, Err(_)) => false,
+        (Some(reply), Ok(receipt)) => is_same_reply(reply, &receipt.reply),
+        (None, Ok(_)) => true,
+    }
+}
+
 impl Past for Before {
     ghost recalls = { λ _. true };
 
@@ -65,12 +74,13 @@ impl Past for Before {
         recall: Recall<A>,
         answer: Result<Receipt<A>, Refusal>,
     ) -> Result<(), RunFault> {
-        match (&recall.reply, &answer) {
-            (_, Err(_)) => Err(RunFault::NoMemory),
-            (Some(reply), Ok(receipt)) if !is_same_reply(reply, &receipt.reply) => {
-                Err(RunFault::NoMemory)
-            }
-            _ => Ok(()),
+        let is_as_before = is_as_before(&recall, &answer);
+        drop(answer);
+        drop(recall);
+        if is_as_before {
+            Ok(())
+        } else {
+            Err(RunFault::NoMemory)
         }
     }
 }
