@@ -13,7 +13,7 @@ use gn_links::{NoGate, Watch};
 use gn_load::{ServeFault, serve_history};
 use gn_report::Report;
 use gn_rules::Config;
-use gn_service::{Batch, Serve, Serving, Stop, serve_on};
+use gn_service::{Batch, Serve, Serving, serve_on};
 use gn_table_router::TableRouter;
 use gn_tcp::{TcpReader, TcpWriter};
 use gn_threads::RunFault;
