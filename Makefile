@@ -59,9 +59,13 @@ uninstall:
 examples: build
 	@scripts/examples.sh crates/gn/out/gn
 
+# How many proofs go on side by side: one a processor, as many as memory holds at 6 GB each. A proof that several processors share takes
+# more of their time in all.
+PROOFS ?= $(shell awk -v processors=$$(nproc) '/^MemTotal/ { fit = int($$2 / 6000000); print fit < 1 ? 1 : fit < processors ? fit : processors }' /proc/meminfo)
+
 # The merge gate: every proof from nothing, the must-fail edits, the tests, the programs.
 test:
-	rt ci
+	RT_JOBS=$(PROOFS) rt ci
 
 # What a call of each table takes; then, three times in a process of its own, what a job through the stage queue takes: these go to
 # standard error. Then tables of what the program gn takes: replays and audits of mixed captures, and loads of 1, 2, 4 and 16 workers

@@ -1,6 +1,6 @@
 //! What a run has done by now.
 
-use gn_links::Place;
+use gn_links::{Made, Place};
 use std::array;
 use std::sync::atomic::{AtomicU32, AtomicU64, Ordering};
 
@@ -44,18 +44,22 @@ pub(crate) struct Counts {
     /// Descriptors that were refused at a threshold.
     busy: AtomicU32,
     steps: AtomicU32,
+    /// The most steps of a serve's history; 0: it is a load.
+    most: AtomicU32,
     /// The descriptors of the last link in each slot.
     offered: [Offered; SLOTS],
 }
 
 /// What a run had done at a look.
-#[derive(Clone, Copy, Debug)]
+#[derive(Clone, Copy)]
 pub(crate) struct Seen {
     pub(crate) links: u64,
     pub(crate) routed: u32,
     pub(crate) admitted: u32,
     pub(crate) busy: u32,
     pub(crate) steps: u32,
+    /// The most steps of a serve; 0: it is a load.
+    pub(crate) most: u32,
 }
 
 impl Seen {
@@ -76,6 +80,7 @@ impl Counts {
             admitted: AtomicU32::new(0),
             busy: AtomicU32::new(0),
             steps: AtomicU32::new(0),
+            most: AtomicU32::new(0),
             offered: array::from_fn(|_| Offered::new()),
         }
     }
@@ -88,7 +93,18 @@ impl Counts {
             admitted: self.admitted.load(Ordering::SeqCst),
             busy: self.busy.load(Ordering::SeqCst),
             steps: self.steps.load(Ordering::SeqCst),
+            most: self.most(),
         }
+    }
+
+    /// The most steps of a serve; 0: it is a load.
+    pub(crate) fn most(&self) -> u32 {
+        self.most.load(Ordering::SeqCst)
+    }
+
+    /// It is a serve of at most so many steps.
+    pub(crate) fn set_most(&self, steps: u32) {
+        self.most.store(steps, Ordering::SeqCst);
     }
 
     /// So many links are loaded.
@@ -106,14 +122,21 @@ impl Counts {
         self.routed.fetch_add(1, Ordering::SeqCst)
     }
 
-    /// One more descriptor was admitted.
-    pub(crate) fn add_admitted(&self) {
-        self.admitted.fetch_add(1, Ordering::SeqCst);
-    }
-
-    /// One more descriptor was refused at a threshold.
-    pub(crate) fn add_busy(&self) {
-        self.busy.fetch_add(1, Ordering::SeqCst);
+    /// The link in this place has made a step; of a serve also what it offered is counted.
+    pub(crate) fn add_made(&self, place: Place, step: Made) {
+        let count = match step {
+            Made::Admitted(_) => &self.admitted,
+            Made::Busy | Made::Crowded => &self.busy,
+            Made::Routed => {
+                self.routed.fetch_add(1, Ordering::SeqCst);
+                return;
+            }
+            _ => return,
+        };
+        count.fetch_add(1, Ordering::SeqCst);
+        if self.most() != 0 {
+            self.add_offer(place);
+        }
     }
 
     /// How many steps were made before this one.
@@ -122,7 +145,7 @@ impl Counts {
     }
 
     /// The link in this place has offered one more descriptor.
-    pub(crate) fn add_offer(&self, place: Place) {
+    fn add_offer(&self, place: Place) {
         if let Some(offered) = self.offered.get(place.slot as usize) {
             offered.add(place.link);
         }

@@ -4,6 +4,7 @@
 mod counts;
 mod progress;
 mod screen;
+mod shown;
 
 pub use progress::Progress;
 pub use screen::Screen;

@@ -1,14 +1,15 @@
 //! The gate of a run that says how far the run is.
 
-use crate::counts::{Counts, Seen};
+use crate::counts::Counts;
 use crate::screen::Screen;
+use crate::shown::{Grouped, TimeOfDay};
 use gn_links::{Gate, Half, Made, Place, Watch};
-use std::alloc::{AllocError, Allocator};
+use std::fmt::Display;
 use std::mem::ManuallyDrop;
 use std::net::SocketAddr;
 use std::sync::Wait;
-use std::sync::atomic::{AtomicBool, AtomicU32, AtomicU64, Ordering};
-use std::time::{Clock, Duration, Instant, SystemTime, UNIX_EPOCH};
+use std::sync::atomic::{AtomicBool, AtomicU64, Ordering};
+use std::time::{Clock, Duration, Instant};
 
 /// The clock is read at each so many jobs of a load, and steps of a serve.
 const LOOK: u32 = 64;
@@ -29,54 +30,12 @@ pub struct Progress<'r, R, O> {
     out: O,
     start: Option<Instant>,
     counts: Counts,
-    /// The most steps of a serve's history; 0: it is a load.
-    most: AtomicU32,
     /// When the next line is due, in seconds from the start.
     due: AtomicU64,
     /// Whether the last line is to be written over.
     is_open: AtomicBool,
     /// What was counted, all in all, as the last line was written; 0: there was none.
     said: AtomicU64,
-}
-
-/// Writes a number with a comma before each three digits.
-fn write_grouped<A: Allocator>(text: &mut String<A>, number: u64) -> Result<(), AllocError> {
-    let (thousands, ones) = (number / 1_000, number % 1_000);
-    if thousands == 0 {
-        return write!(text, "{ones}");
-    }
-    let (millions, thousands) = (thousands / 1_000, thousands % 1_000);
-    if millions == 0 {
-        return write!(text, "{thousands},{ones:03}");
-    }
-    let (billions, millions) = (millions / 1_000, millions % 1_000);
-    if billions == 0 {
-        return write!(text, "{millions},{thousands:03},{ones:03}");
-    }
-    write!(text, "{billions},{millions:03},{thousands:03},{ones:03}")
-}
-
-/// Writes how far a run is; of a serve also how many steps are left of so many.
-fn write_seen<A: Allocator>(
-    text: &mut String<A>,
-    seen: &Seen,
-    most: u32,
-) -> Result<(), AllocError> {
-    text.push_str("routed ")?;
-    write_grouped(text, u64::from(seen.routed))?;
-    text.push_str(" of ")?;
-    write_grouped(text, u64::from(seen.admitted))?;
-    text.push_str(" admitted, ")?;
-    write_grouped(text, seen.links)?;
-    text.push_str(" links")?;
-    if most != 0 {
-        text.push_str(", ")?;
-        write_grouped(text, u64::from(seen.busy))?;
-        text.push_str(" busy, ")?;
-        write_grouped(text, u64::from(most.saturating_sub(seen.steps)))?;
-        text.push_str(" steps left")?;
-    }
-    Ok(())
 }
 
 /// The word of a half's thread.
@@ -95,106 +54,51 @@ impl<'r, R: Clock + AllocGlobal, O: Screen> Progress<'r, R, O> {
             out,
             start: Instant::now(rt).ok(),
             counts: Counts::new(),
-            most: AtomicU32::new(0),
             due: AtomicU64::new(1),
             is_open: AtomicBool::new(false),
             said: AtomicU64::new(0),
         }
     }
 
-    /// Writes a text, where there was memory for it. That it can't be written changes nothing.
-    fn write_text(&self, text: Result<String, AllocError>) {
-        if let Ok(text) = text {
-            self.out.show(text.as_str());
+    /// The time of day now, in UTC.
+    fn time_of_day(&self) -> TimeOfDay {
+        match self.rt.since_1970() {
+            Ok(since) => TimeOfDay(Some(since.as_secs() % DAY)),
+            Err(_) => TimeOfDay(None),
         }
     }
 
-    /// Writes the time of day, where the clock can be read.
-    fn write_time<A: Allocator>(&self, text: &mut String<A>) -> Result<(), AllocError> {
-        let Ok(now) = SystemTime::now(self.rt) else {
-            return Ok(());
+    /// Writes a line that stays, below the last one, where there is memory for it.
+    fn tell<D: Display>(&self, news: &D) {
+        let below = if self.is_open.swap(false, Ordering::SeqCst) {
+            "\n"
+        } else {
+            ""
         };
-        let Ok(since) = now.duration_since(UNIX_EPOCH) else {
-            return Ok(());
-        };
-        let seconds = since.as_secs() % DAY;
-        let (hours, minutes, seconds) = (seconds / 3_600, seconds / 60 % 60, seconds % 60);
-        write!(text, " at {hours:02}:{minutes:02}:{seconds:02}")
-    }
-
-    /// The beginning of a line that stays: below the last one.
-    fn below(&self) -> Result<String, AllocError> {
-        let mut text = String::new(self.rt.alloc());
-        if self.is_open.swap(false, Ordering::SeqCst) {
-            text.push('\n')?;
+        let time = self.time_of_day();
+        if let Ok(line) = format!(in self.rt.alloc(); "{below}{news}{time}\n") {
+            self.out.show(line.as_str());
         }
-        Ok(text)
     }
 
-    /// The line of a link that comes.
-    fn came_line(&self, link: u32, peer: SocketAddr) -> Result<String, AllocError> {
-        let mut text = self.below()?;
-        write!(text, "link {link} {peer} came")?;
-        self.write_time(&mut text)?;
-        text.push('\n')?;
-        Ok(text)
-    }
-
-    /// The line of a thread of a link that ends.
-    fn ended_line(&self, link: u32, half: Half) -> Result<String, AllocError> {
-        let mut text = self.below()?;
-        let half = half_word(half);
-        write!(text, "link {link} {half} ended")?;
-        self.write_time(&mut text)?;
-        text.push('\n')?;
-        Ok(text)
-    }
-
-    /// The line of a link that is disconnected as it floods.
-    fn flooded_line(
-        &self,
-        link: u32,
-        peer: SocketAddr,
-        seconds: u32,
-    ) -> Result<String, AllocError> {
-        let mut text = self.below()?;
-        write!(
-            text,
-            "link {link} {peer} disconnected: flooded for {seconds} s"
-        )?;
-        self.write_time(&mut text)?;
-        text.push('\n')?;
-        Ok(text)
-    }
-
-    /// The line of the link that has offered most once such a part of the steps is made.
-    fn loudest_line(&self, part: &str) -> Result<String, AllocError> {
-        let mut text = self.below()?;
+    /// Writes the link that has offered most once such a part of the steps is made.
+    fn tell_loudest(&self, part: &str) {
         let (link, offered) = self.counts.loudest();
-        write!(text, "{part} of the steps: link {link} offered most, ")?;
-        write_grouped(&mut text, u64::from(offered))?;
-        self.write_time(&mut text)?;
-        text.push('\n')?;
-        Ok(text)
+        let offered = Grouped(u64::from(offered));
+        self.tell(&format_args!("{part} of the steps: link {link} offered most, {offered}"));
     }
 
-    /// The line of a second.
-    fn line(&self) -> Result<String, AllocError> {
-        let mut text = String::new(self.rt.alloc());
+    /// Writes the line of a second, where there is memory for it.
+    fn write_line(&self) {
         let is_over = self.out.is_terminal();
-        if is_over {
-            text.push('\r')?;
-        }
-        let most = self.most.load(Ordering::SeqCst);
+        let (begin, end) = if is_over { ("\r", "") } else { ("", "\n") };
         let seen = self.counts.seen();
         self.said.store(seen.all(), Ordering::SeqCst);
-        write_seen(&mut text, &seen, most)?;
-        self.write_time(&mut text)?;
-        if !is_over {
-            text.push('\n')?;
+        let time = self.time_of_day();
+        if let Ok(line) = format!(in self.rt.alloc(); "{begin}{seen}{time}{end}") {
+            self.is_open.store(is_over, Ordering::SeqCst);
+            self.out.show(line.as_str());
         }
-        self.is_open.store(is_over, Ordering::SeqCst);
-        Ok(text)
     }
 
     /// Whole seconds since it was made; 0 where the clock can't be read.
@@ -219,7 +123,7 @@ impl<'r, R: Clock + AllocGlobal, O: Screen> Progress<'r, R, O> {
                 .compare_exchange(due, next, Ordering::SeqCst, Ordering::SeqCst)
                 .is_ok()
         {
-            self.write_text(self.line());
+            self.write_line();
         }
     }
 
@@ -232,20 +136,13 @@ impl<'r, R: Clock + AllocGlobal, O: Screen> Progress<'r, R, O> {
     fn step(&self, most: u32) {
         let made = self.counts.add_step();
         if made == most / 2 {
-            self.write_text(self.loudest_line("half"));
+            self.tell_loudest("half");
         }
         if made == most / 10 * 9 {
-            self.write_text(self.loudest_line("nine tenths"));
+            self.tell_loudest("nine tenths");
         }
         if made % LOOK == 0 {
             self.look();
-        }
-    }
-
-    /// A link of a serve offered a descriptor.
-    fn offer(&self, place: Place, most: u32) {
-        if most != 0 {
-            self.counts.add_offer(place);
         }
     }
 }
@@ -253,37 +150,26 @@ impl<'r, R: Clock + AllocGlobal, O: Screen> Progress<'r, R, O> {
 impl<'r, R: Clock + AllocGlobal, O: Screen> Gate for Progress<'r, R, O> {
     fn enter<W: Wait>(&self, _rt: &W, _worker: u32, _ticket: u32) {
         let routed = self.counts.add_routed();
-        match self.most.load(Ordering::SeqCst) {
-            0 if routed % LOOK == 0 => self.look(),
-            0 => {}
-            most => self.step(most),
+        let most = self.counts.most();
+        if most != 0 {
+            self.step(most);
+        } else if routed % LOOK == 0 {
+            self.look();
         }
     }
 
     fn made(&self, place: Place, step: Made) {
-        let most = self.most.load(Ordering::SeqCst);
-        match step {
-            Made::Admitted(_) => {
-                self.counts.add_admitted();
-                self.offer(place, most);
-            }
-            Made::Busy | Made::Crowded => {
-                self.counts.add_busy();
-                self.offer(place, most);
-            }
-            Made::Routed => {
-                self.counts.add_routed();
-            }
-            _ => {}
-        }
+        self.counts.add_made(place, step);
+        let most = self.counts.most();
         if most != 0 {
             self.step(most);
         }
     }
 
     fn ended(&self, place: Place, half: Half) {
-        if self.most.load(Ordering::SeqCst) != 0 {
-            self.write_text(self.ended_line(place.link, half));
+        if self.counts.most() != 0 {
+            let (link, half) = (place.link, half_word(half));
+            self.tell(&format_args!("link {link} {half} ended"));
         }
     }
 }
@@ -295,16 +181,16 @@ impl<'r, R: Clock + AllocGlobal, O: Screen> Watch for Progress<'r, R, O> {
     }
 
     fn open(&self, steps: u32) {
-        self.most.store(steps, Ordering::SeqCst);
+        self.counts.set_most(steps);
     }
 
     fn came<W: Wait>(&self, _rt: &W, link: u32, peer: SocketAddr) {
         self.counts.add_link();
-        self.write_text(self.came_line(link, peer));
+        self.tell(&format_args!("link {link} {peer} came"));
     }
 
     fn flooded(&self, link: u32, peer: SocketAddr, seconds: u32) {
-        self.write_text(self.flooded_line(link, peer, seconds));
+        self.tell(&format_args!("link {link} {peer} disconnected: flooded for {seconds} s"));
     }
 
     /// What was done since the last line is said a second after that at the latest, also where nothing follows it.
@@ -318,7 +204,7 @@ impl<'r, R: Clock + AllocGlobal, O: Screen> Watch for Progress<'r, R, O> {
     /// The last line comes once more, where there was one and something was done since. On a terminal it is left.
     fn end(&self) {
         if self.said.load(Ordering::SeqCst) != 0 && self.is_stale() {
-            self.write_text(self.line());
+            self.write_line();
         }
         if self.is_open.swap(false, Ordering::SeqCst) {
             self.out.show("\n");

@@ -1,31 +1,32 @@
 //! Serves that any number of callers may call.
 
+mod clients;
+
 use crate::batch::usual_batch;
 use crate::loads::is_legal;
-use crate::loopback::peers::{sent, takes};
-use crate::wanted::a_listener;
-use gn_fixtures::{PING, usual};
+use crate::loopback::{Listeners, two_listeners};
+pub(crate) use clients::Clients;
+use clients::{CLIENTS, FIRST, play};
+use gn_fixtures::usual;
 use gn_io::{Sink, WriterSink};
 use gn_links::NoGate;
 use gn_load::serve_any_journalled;
 use gn_report::LinkAccount;
-use gn_service::{Any, Parting, Serve, Serving, Stop};
-use gn_shake::{consent, request};
+use gn_rules::Config;
+use gn_service::{Any, Parting, Pings, Serve, Serving, Stop};
 use gn_tcp::{TcpReader, TcpWriter};
+use gn_wire::Guid;
 use std::alloc::Global;
-use std::io::{Read, Write};
 use std::net::{Net, SocketAddr, TcpListener, TcpStream};
+use std::process::Abort;
 use std::sync::Wait;
 use std::sync::atomic::{AtomicU32, AtomicU64, Ordering};
 use std::test::Fail;
+use std::thread;
 use std::thread::Threads;
-use std::time::Clock;
-use std::{io, thread};
+use std::time::{Clock, Duration};
 
-/// How many clients call, one after another.
-const CLIENTS: u32 = 300;
-
-/// The numbers of their links, each as often as its client sends a Ping: 0 + 2 * 1 + 2 + 2 * 3 + .. + 2 * 299.
+/// The numbers of the clients' links, each as often as its client sends a Ping: 0 + 2 * 1 + 2 + 2 * 3 + .. + 2 * 299.
 const OFFERS: u64 = 67_350;
 
 /// Counts the links that end, and adds up their numbers, each as often as its link offered a descriptor.
@@ -53,48 +54,72 @@ impl Parting<Global> for Counter {
     }
 }
 
-/// Sends the Ping whose ID repeats this byte.
-fn pings(client: &mut TcpStream, byte: u8) -> bool {
-    client.write_all(&[byte; 16]).is_ok() && client.write_all(&PING[16..]).is_ok()
+/// What is found of such a serve.
+#[derive(Clone, Copy)]
+pub(crate) struct Found {
+    /// How many steps say that the own servent sent something.
+    pub(crate) sent: usize,
+    /// How many links ended.
+    ended: u32,
+    /// The sum of their numbers, each as often as its link offered a descriptor.
+    offers: u64,
 }
 
-/// Whether the client of this number, which has greeted, is let in, and its Ping is answered, or both its Pings where that is odd. Its last
-/// Pong is there then, and not read.
-fn is_answered(client: &mut TcpStream, number: u32) -> bool {
-    let (byte, is_odd) = ((number % 256) as u8, number % 2 == 1);
-    pings(client, byte)
-        && takes(client, 13)
-        && (!is_odd || pings(client, byte ^ 0x80) && takes(client, 37))
-        && matches!(client.peek(&mut [0u8; 1]), Ok(1))
-}
-
-/// Whether that client comes and is answered. It goes with that unread, which resets its connection.
-fn comes_and_goes<N: Net<Listener = TcpListener, Stream = TcpStream>>(
-    net: &N,
-    at: SocketAddr,
-    number: u32,
-) -> io::Result<bool> {
-    let mut client = sent(net, at, b"")?;
-    let is_answered = is_answered(&mut client, number);
-    drop(client);
-    Ok(is_answered)
-}
-
-/// Whether each of the clients does so. The run is stopped then.
-fn all_come<N: Net<Listener = TcpListener, Stream = TcpStream>>(
-    net: &N,
-    at: SocketAddr,
-    stop: &Stop,
-) -> bool {
-    let mut are_answered = true;
-    for number in 0..CLIENTS {
-        are_answered &= matches!(comes_and_goes(net, at, number), Ok(true));
+/// Any number of callers, whose links' ends this counts. The own servent sends its neighbours Pings where they go without a word.
+fn accepted<'a>(clients: Clients, counter: &'a Counter) -> Any<'a, Counter> {
+    let pings = match clients {
+        Clients::Go => Some(Pings {
+            every: Duration::from_millis(20),
+            first: Guid(FIRST),
+        }),
+        _ => None,
+    };
+    Any {
+        leaving: counter,
+        again: pings.is_none(),
+        pings,
+        callers_a_minute: None,
     }
-    stop.set();
-    are_answered
 }
 
-/// What a serve writes that the clients call, and that calls this peer for as long as it runs, if there is one; where it ends well.
+/// Such a serve at this listener, which calls these peers.
+fn serve_of<'a>(
+    listener: &'a TcpListener,
+    config: &'a Config,
+    clients: Clients,
+    peers: &'a [SocketAddr],
+    stop: &'a Stop,
+    counter: &'a Counter,
+) -> Serve<'a, 'a, NoGate, Any<'a, Counter>> {
+    Serve {
+        listener,
+        config,
+        peers,
+        accept: accepted(clients, counter),
+        workers: 2,
+        limits: Serving {
+            stop: Some(stop),
+            ..Serving::UNLIMITED
+        },
+        watch: &NoGate,
+        batch: usual_batch(),
+    }
+}
+
+/// Whether such a serve ends well, which writes its history there.
+fn is_served<
+    R: Threads
+        + Wait
+        + Net<Listener = TcpListener, Stream = TcpStream>
+        + Clock
+        + AllocGlobal
+        + Sync,
+    W: Sink + Send,
+>(rt: &R, alloc: Global, serve: &Serve<'_, '_, NoGate, Any<'_, Counter>>, sink: &mut W) -> bool {
+    serve_any_journalled(rt, alloc, serve, sink).is_ok()
+}
+
+/// What such a serve writes, where it ends well.
 fn written<
     R: Threads
         + Wait
@@ -105,6 +130,7 @@ fn written<
 >(
     rt: &R,
     alloc: Global,
+    clients: Clients,
     listener: &TcpListener,
     peers: &[SocketAddr],
     stop: &Stop,
@@ -113,31 +139,10 @@ fn written<
     let Ok(config) = usual(10_000) else {
         return None;
     };
-    let serve = Serve {
-        listener,
-        config: &config,
-        peers,
-        accept: Any {
-            leaving: counter,
-            // without peers it means nothing
-            again: true,
-            pings: None,
-            callers_a_minute: None,
-        },
-        workers: 2,
-        limits: Serving {
-            stop: Some(stop),
-            ..Serving::UNLIMITED
-        },
-        watch: &NoGate,
-        batch: usual_batch(),
-    };
+    let serve = serve_of(listener, &config, clients, peers, stop, counter);
     let mut sink = WriterSink::new(Vec::new(alloc));
-    let served = serve_any_journalled(rt, alloc, &serve, &mut sink);
-    match served {
-        Ok(_) => Some(sink.into_inner()),
-        Err(_) => None,
-    }
+    let is_served = is_served(rt, alloc, &serve, &mut sink);
+    is_served.then_some(sink.into_inner())
 }
 
 /// How many steps stand in this history.
@@ -151,113 +156,114 @@ fn steps_in(history: &[u8]) -> usize {
     lines.saturating_sub(4)
 }
 
-/// Whether all went well, and a legal history was written; and what the counter has.
-fn is_served(
-    alloc: Global,
-    are_answered: bool,
-    written: Option<Vec<u8>>,
-    counter: &Counter,
-) -> Result<(bool, u32, u64), Fail> {
-    let Some(written) = written else {
-        return Ok((false, 0, 0));
-    };
-    let is_legal = is_legal(alloc, written.as_slice(), steps_in(&written))?;
-    drop(written);
-    Ok((
-        are_answered && is_legal,
-        counter.ended.load(Ordering::SeqCst),
-        counter.offers.load(Ordering::SeqCst),
-    ))
-}
-
-/// Whether all clients are answered by such a serve, whose history is legal; and what its counter has.
-fn serves_all<
-    R: Threads
-        + Wait
-        + Net<Listener = TcpListener, Stream = TcpStream>
-        + Clock
-        + AllocGlobal
-        + Sync,
->(rt: &R, alloc: Global) -> Result<(bool, u32, u64), Fail> {
-    let listener = a_listener(rt)?;
-    let at = listener.local_addr()?;
-    let stop = Stop::new(None, false);
-    let counter = Counter::new();
-    let (stop, counter) = (&stop, &counter);
-    let listener = &listener;
-    let (are_answered, written) = thread::join(
-        rt,
-        move || all_come(rt, at, stop),
-        move || written(rt, alloc, listener, &[], stop, counter),
-    );
-    is_served(alloc, are_answered, written, counter)
-}
-
-/// How often a peer is called.
-const TURNS: u8 = 2;
-
-/// Lets the run in that has called, sends the Ping whose ID repeats this byte, and waits for what comes. Whether something does.
-fn is_pinged(peer: &mut TcpStream, byte: u8) -> io::Result<bool> {
-    let mut asked = [0u8; 22];
-    peer.read_exact(&mut asked)?;
-    peer.write_all(consent())?;
-    let is_pinged = asked.as_slice() == request() && pings(peer, byte);
-    Ok(is_pinged && peer.peek(&mut [0u8; 1])? > 0)
-}
-
-/// Whether a peer at this listener is called, and gets the Pong of that Ping. It goes with that unread, which resets its connection.
-fn is_called(listener: &TcpListener, byte: u8) -> io::Result<bool> {
-    let (mut peer, _) = listener.accept()?;
-    let is_pinged = is_pinged(&mut peer, byte);
-    drop(peer);
-    is_pinged
-}
-
-/// Whether a peer is called again each time that it has gone. The run is stopped then.
-fn is_called_again(listener: &TcpListener, stop: &Stop) -> bool {
-    let mut is_called_each_time = true;
-    for turn in 0..TURNS {
-        is_called_each_time &= matches!(is_called(listener, turn), Ok(true));
+/// How many lines of it say that the own servent sent something.
+fn sent_in(history: &[u8]) -> usize {
+    let mut sent = 0usize;
+    for text in history.windows(13) {
+        if text == b"\n0 originate ".as_slice() {
+            sent = sent.wrapping_add(1);
+        }
     }
-    stop.set();
-    is_called_each_time
+    sent
 }
 
-/// Whether a peer is called so by such a serve, whose history is legal; and what its counter has.
-fn calls_again<
+/// Whether a history is written and legal, and how many of its steps say that the own servent sent something.
+fn judged(alloc: Global, written: Option<Vec<u8>>) -> Result<(bool, usize), Fail> {
+    let Some(history) = written else {
+        return Ok((false, 0));
+    };
+    let history = history.as_slice();
+    let is_legal = is_legal(alloc, history, steps_in(history))?;
+    Ok((is_legal, sent_in(history)))
+}
+
+/// Whom the serve calls of these: its peer, where that is called.
+fn called_of(clients: Clients, there: &[SocketAddr]) -> &[SocketAddr] {
+    match clients {
+        Clients::AreCalled => there,
+        _ => &there[..0],
+    }
+}
+
+/// What is found of a serve of these clients at this address, which this stops, and whose links' ends this counts. The test ends where not
+/// all went well, or the history isn't legal.
+fn found_at<
     R: Threads
         + Wait
         + Net<Listener = TcpListener, Stream = TcpStream>
+        + Sync
+        + Abort
         + Clock
-        + AllocGlobal
-        + Sync,
->(rt: &R, alloc: Global) -> Result<(bool, u32, u64), Fail> {
-    let (listener, there) = (a_listener(rt)?, a_listener(rt)?);
-    let peers = [there.local_addr()?];
+        + AllocGlobal,
+>(
+    rt: &R,
+    alloc: Global,
+    clients: Clients,
+    at: SocketAddr,
+    listeners: &Listeners,
+    peers: &[SocketAddr],
+    stop: &Stop,
+    counter: &Counter,
+) -> Result<Found, Fail> {
+    let (is_good, written) = thread::join(
+        rt,
+        move || play(rt, clients, at, listeners, counter, stop),
+        move || written(rt, alloc, clients, &listeners.own, peers, stop, counter),
+    );
+    let (is_legal, sent) = judged(alloc, written)?;
+    assert!(rt; is_good && is_legal);
+    Ok(Found {
+        sent,
+        ended: counter.ended.load(Ordering::SeqCst),
+        offers: counter.offers.load(Ordering::SeqCst),
+    })
+}
+
+/// What is found of a serve of these clients at these listeners.
+fn found_between<
+    R: Threads
+        + Wait
+        + Net<Listener = TcpListener, Stream = TcpStream>
+        + Sync
+        + Abort
+        + Clock
+        + AllocGlobal,
+>(rt: &R, alloc: Global, clients: Clients, listeners: &Listeners) -> Result<Found, Fail> {
+    let at = listeners.own.local_addr()?;
+    let there = [listeners.theirs.local_addr()?];
+    let peers = called_of(clients, &there);
     let stop = Stop::new(None, false);
     let counter = Counter::new();
-    let (stop, counter, listener, peers, there) = (&stop, &counter, &listener, &peers, &there);
-    let (is_called, written) = thread::join(
-        rt,
-        move || is_called_again(there, stop),
-        move || written(rt, alloc, listener, peers, stop, counter),
-    );
-    is_served(alloc, is_called, written, counter)
+    found_at(rt, alloc, clients, at, listeners, peers, &stop, &counter)
+}
+
+/// What is found of a serve of these clients, at listeners of its own.
+pub(crate) fn found_of<
+    R: Threads
+        + Wait
+        + Net<Listener = TcpListener, Stream = TcpStream>
+        + Sync
+        + Abort
+        + Clock
+        + AllocGlobal,
+>(rt: &R, alloc: Global, clients: Clients) -> Result<Found, Fail> {
+    let listeners = two_listeners(rt)?;
+    found_between(rt, alloc, clients, &listeners)
 }
 
 /// More clients than there are places come one after another, and the end of each link is told with its number.
 #[test]
 fn any_number_is_served(rt: HostRuntime) -> Result<(), Fail> {
-    assert_eq!(rt; serves_all(&rt, rt.alloc())?, (true, CLIENTS, OFFERS));
+    let found = found_of(&rt, rt.alloc(), Clients::Come)?;
+    assert_eq!(rt; (found.ended, found.offers), (CLIENTS, OFFERS));
     Ok(())
 }
 
 /// A peer that has gone is called again over another link.
 #[test]
 fn a_peer_is_called_again(rt: HostRuntime) -> Result<(), Fail> {
-    let (is_called, ended, offers) = calls_again(&rt, rt.alloc())?;
-    assert!(rt; is_called);
+    let found = found_of(&rt, rt.alloc(), Clients::AreCalled)?;
     // the peer sends one Ping over each link, and a third call may have begun by the stop
-    assert!(rt; (ended == 2 || ended == 3) && offers == 1);
+    assert!(rt; (found.ended == 2 || found.ended == 3) && found.offers == 1);
     Ok(())
 }

@@ -1,10 +1,10 @@
 //! Loads whose history is written while they run, and can't be written whole.
 
-use crate::batch::usual_batch;
+use crate::batch::usual_loading;
 use crate::journal::{Full, Narrow, ONE_PING};
 use gn_io::{ReaderSource, WriterSink};
 use gn_links::NoGate;
-use gn_load::{LoadFault, Loading, load_journalled};
+use gn_load::{LoadFault, load_journalled};
 use gn_replay::ReplayFault;
 use std::alloc::Global;
 use std::sync::Wait;
@@ -28,22 +28,15 @@ fn loaded_at_most<R: Threads + Wait + Sync>(
     full: Full,
 ) -> (Result<(), LoadFault>, bool) {
     let mut source = ReaderSource::new(LONE_PING.as_bytes());
-    let mut sink = WriterSink::new(Narrow {
-        taken: Vec::new(alloc),
-        left: most,
-        full,
-    });
-    let loading = Loading {
-        workers: 1,
-        watch: &NoGate,
-        batch: usual_batch(),
-    };
-    let loaded = load_journalled(rt, alloc, &loading, &mut source, &mut sink);
-    drop(source);
-    let Narrow { taken, .. } = sink.into_inner();
-    let is_begun = taken.len() == most && ONE_PING.as_bytes().starts_with(&taken);
-    drop(taken);
-    (loaded, is_begun)
+    let mut sink = WriterSink::new(Narrow::new(most, full));
+    let loaded = load_journalled(
+        rt,
+        alloc,
+        &usual_loading(1, &NoGate),
+        &mut source,
+        &mut sink,
+    );
+    (loaded, sink.into_inner().has_begun())
 }
 
 /// Each of the first 200 writes that may fail ends the load, and each that may take nothing. Where all can be written, all is.

@@ -1,15 +1,15 @@
 //! Runs over the loopback that the system has no handles for.
 
-use crate::loopback::peers::{hears, sent};
-use crate::loopback::{DRAINED, TcpReport, have_ended, serve};
+use crate::loopback::peers::{all_sent, hears};
+use crate::loopback::{DRAINED, Seen, fault_of, must_fail, seen_at};
 use crate::wanted::a_listener;
 use gn_fixtures::{OWN_PONG, PING};
 use gn_run_fixtures::a_report;
 use gn_service::Serving;
 use gn_threads::RunFault;
-use std::alloc::Global;
+use std::alloc::{AllocError, Global};
 use std::fs::File;
-use std::net::{Net, Shutdown, TcpListener, TcpStream};
+use std::net::{Net, TcpListener, TcpStream};
 use std::rt::Files;
 use std::sync::Wait;
 use std::test::Fail;
@@ -20,17 +20,31 @@ use std::time::{Clock, Duration};
 /// More handles than a process may have.
 const MOST: u32 = 4_000_000;
 
-/// Takes all handles that the system still gives.
-fn take_all<R: Files<File = File>>(rt: &R, alloc: Global) -> Result<Vec<File>, Fail> {
-    let mut held = Vec::new(alloc);
+/// Takes handles until the system gives no more. Whether there was an end of them.
+fn take<R: Files<File = File>>(rt: &R, held: &mut Vec<File>) -> Result<bool, AllocError> {
     for _ in 0..MOST {
         match File::open(rt, "/dev/null") {
             Ok(file) => held.push(file)?,
-            Err(_) => return Ok(held),
+            Err(_) => return Ok(true),
         }
     }
-    drop(held);
-    Err("an end of handles".into())
+    Ok(false)
+}
+
+/// All handles that the system still gives, but for so many.
+fn take_all<R: Files<File = File>>(
+    rt: &R,
+    alloc: Global,
+    spared: usize,
+) -> Result<Vec<File>, Fail> {
+    let mut held = Vec::new(alloc);
+    match take(rt, &mut held) {
+        Ok(true) => {
+            held.truncate(held.len().saturating_sub(spared));
+            Ok(held)
+        }
+        _ => Err("an end of handles".into()),
+    }
 }
 
 /// Whether nothing comes for a fifth of a second.
@@ -63,22 +77,21 @@ fn fault_without_handles<
         + AllocGlobal,
 >(rt: &R, alloc: Global) -> Result<Option<RunFault>, Fail> {
     let listener = a_listener(rt)?;
-    let held = take_all(rt, alloc)?;
-    let served = serve(rt, alloc, &listener, 100, 1, &[], &Serving::UNLIMITED);
+    let held = take_all(rt, alloc, 0)?;
+    let fault = fault_of(rt, alloc, &listener, 100, 1, &[]);
     drop(held);
-    drop(listener);
-    Ok(served.err())
+    Ok(fault)
 }
 
 /// A run that can't be called away from its listener doesn't begin, and says so.
 #[test]
 fn want_of_handles_is_no_want_of_memory(rt: HostRuntime) -> Result<(), Fail> {
     let fault = fault_without_handles(&rt, rt.alloc())?;
-    assert_eq!(rt; fault, Some(RunFault::Listen));
+    must_fail(&rt, fault, RunFault::Listen);
     Ok(())
 }
 
-/// Whether such a client is served so, and what the run answers.
+/// Whether such a client is served so, and what is seen of the run.
 fn beside_client<
     R: Threads
         + Wait
@@ -92,33 +105,16 @@ fn beside_client<
     listener: &TcpListener,
     client: &mut TcpStream,
     held: Vec<File>,
-) -> (bool, Result<TcpReport<'static>, RunFault>) {
+) -> (bool, Result<Seen, RunFault>) {
     thread::join(
         rt,
         move || is_served_late(rt, client, held),
-        move || serve(rt, alloc, listener, 100, 1, &[], &Serving::UNLIMITED),
+        move || seen_at(rt, alloc, listener, 100, 1, &[], &Serving::UNLIMITED),
     )
 }
 
-/// A client that has called there, and sends a Ping and its end.
-fn calling<N: Net<Listener = TcpListener, Stream = TcpStream>>(
-    net: &N,
-    listener: &TcpListener,
-) -> Result<TcpStream, Fail> {
-    let client = sent(net, listener.local_addr()?, PING)?;
-    client.shutdown(Shutdown::Write)?;
-    Ok(client)
-}
-
-/// All handles except one, which is for the run's own.
-fn all_but_one<R: Files<File = File>>(rt: &R, alloc: Global) -> Result<Vec<File>, Fail> {
-    let mut held = take_all(rt, alloc)?;
-    drop(held.pop());
-    Ok(held)
-}
-
-/// Whether a client is served once there are handles again, and what the run answers.
-fn served_late<
+/// Whether a client is served once there are handles again, and its run ends.
+fn serves_client<
     R: Threads
         + Wait
         + Net<Listener = TcpListener, Stream = TcpStream>
@@ -126,17 +122,28 @@ fn served_late<
         + Sync
         + Clock
         + AllocGlobal,
->(rt: &R, alloc: Global) -> Result<(bool, Result<TcpReport<'static>, RunFault>), Fail> {
-    let listener = a_listener(rt)?;
-    let mut client = calling(rt, &listener)?;
-    let held = all_but_one(rt, alloc)?;
-    let both = beside_client(rt, alloc, &listener, &mut client, held);
-    drop(client);
-    drop(listener);
-    Ok(both)
+>(rt: &R, alloc: Global, listener: &TcpListener, client: &mut TcpStream) -> Result<bool, Fail> {
+    // the run's own wants one
+    let held = take_all(rt, alloc, 1)?;
+    let (is_served, seen) = beside_client(rt, alloc, listener, client, held);
+    Ok(is_served && a_report(seen)?.ends[0] == Some(DRAINED))
 }
 
-/// Whether such a run serves that client, and ends.
+/// The same of a client that sends a Ping and its end.
+fn serves_a_client<
+    R: Threads
+        + Wait
+        + Net<Listener = TcpListener, Stream = TcpStream>
+        + Files<File = File>
+        + Sync
+        + Clock
+        + AllocGlobal,
+>(rt: &R, alloc: Global, listener: &TcpListener) -> Result<bool, Fail> {
+    let mut client = all_sent(rt, listener.local_addr()?, PING)?;
+    serves_client(rt, alloc, listener, &mut client)
+}
+
+/// The same at a listener of its own.
 fn serves_late<
     R: Threads
         + Wait
@@ -146,11 +153,8 @@ fn serves_late<
         + Clock
         + AllocGlobal,
 >(rt: &R, alloc: Global) -> Result<bool, Fail> {
-    let (is_good, served) = served_late(rt, alloc)?;
-    let report = a_report(served)?;
-    let has_ended = have_ended(&report, 0, 1, DRAINED);
-    drop(report);
-    Ok(is_good && has_ended)
+    let listener = a_listener(rt)?;
+    serves_a_client(rt, alloc, &listener)
 }
 
 /// A caller for which there is no handle waits until there is one, and ends no run.

@@ -1,17 +1,16 @@
 //! Serves whose history is written while they go on.
 
 use crate::batch::usual_batch;
-use crate::loopback::peers::{hears, sent};
-use crate::wanted::a_listener;
+use crate::loopback::peers::hears;
+use crate::wanted::a_called_listener;
 use gn_fixtures::{OWN_PONG, PING, usual};
-use gn_io::{Sink, WriterSink};
+use gn_io::{IoFault, Sink, WriterSink};
 use gn_links::NoGate;
 use gn_load::{ServeFault, serve_journalled};
-use gn_rules::Config;
-use gn_service::{Serve, Serving};
+use gn_service::{RunFault, Serve, Serving};
 use std::alloc::Global;
 use std::io::{self, ErrorKind, Write};
-use std::net::{Net, Shutdown, SocketAddr, TcpListener, TcpStream};
+use std::net::{Net, Shutdown, TcpListener, TcpStream};
 use std::sync::Wait;
 use std::sync::atomic::{AtomicU64, Ordering};
 use std::test::Fail;
@@ -26,19 +25,39 @@ pub(crate) enum Full {
     TakesNothing,
 }
 
-/// A stream that takes one byte a write, and so many in all.
-#[derive(Drop)]
+/// A stream that takes one byte a write, and so many in all. It keeps how many it took, and whether they are those of `ONE_PING`.
+#[derive(Clone, Copy)]
 pub(crate) struct Narrow {
-    pub(crate) taken: Vec<u8>,
-    pub(crate) left: usize,
-    pub(crate) full: Full,
+    taken: usize,
+    most: usize,
+    full: Full,
+    is_right: bool,
+}
+
+impl Narrow {
+    /// It has taken nothing.
+    pub(crate) fn new(most: usize, full: Full) -> Self {
+        Narrow {
+            taken: 0,
+            most,
+            full,
+            is_right: true,
+        }
+    }
+
+    /// Whether it took as many first bytes of `ONE_PING` as it can, or all.
+    pub(crate) fn has_begun(&self) -> bool {
+        self.is_right && self.taken == self.most.min(ONE_PING.len())
+    }
 }
 
 impl Write for Narrow {
     fn write(&mut self, piece: &[u8]) -> io::Result<usize> {
-        if self.left > 0 {
-            self.left -= 1;
-            return self.taken.write(&piece[..piece.len().min(1)]);
+        if self.taken < self.most {
+            let right = ONE_PING.as_bytes().get(self.taken);
+            self.is_right = self.is_right && piece.first() == right;
+            self.taken += 1;
+            return Ok(piece.len().min(1));
         }
         match self.full {
             Full::Fails => Err(io::Error::from(ErrorKind::StorageFull)),
@@ -51,18 +70,18 @@ impl Write for Narrow {
     }
 }
 
-/// A stream that counts what it takes.
-#[derive(Drop)]
+/// A sink that counts what it takes, and keeps none of it.
+#[derive(Clone, Copy)]
 struct Counted<'a>(&'a AtomicU64);
 
-impl<'a> Write for Counted<'a> {
-    fn write(&mut self, piece: &[u8]) -> io::Result<usize> {
+impl<'a> Sink for Counted<'a> {
+    ghost use Rattle.std.specs.Prelude.{None};
+
+    ghost state = { λ _. record { written = None; failures = 0; stalls = 0 } };
+
+    fn write(&mut self, piece: &[u8]) -> Result<usize, IoFault> {
         self.0.fetch_add(piece.len() as u64, Ordering::SeqCst);
         Ok(piece.len())
-    }
-
-    fn flush(&mut self) -> io::Result<()> {
-        Ok(())
     }
 }
 
@@ -75,16 +94,13 @@ fn serve_one<
         + AllocGlobal
         + Sync,
     W: Sink + Send,
->(
-    rt: &R,
-    alloc: Global,
-    listener: &TcpListener,
-    config: &Config,
-    sink: &mut W,
-) -> Option<ServeFault> {
+>(rt: &R, alloc: Global, listener: &TcpListener, sink: &mut W) -> Option<ServeFault> {
+    let Ok(config) = usual(100) else {
+        return Some(ServeFault::Run(RunFault::BadWorkers));
+    };
     let serve = Serve {
         listener,
-        config,
+        config: &config,
         peers: &[],
         accept: 1,
         workers: 1,
@@ -93,49 +109,16 @@ fn serve_one<
         batch: usual_batch(),
     };
     let served = serve_journalled::<R, NoGate, W>(rt, alloc, &serve, sink);
-    match served {
+    let fault = match &served {
         Ok(_) => None,
-        Err(stopped) => Some(stopped.fault),
-    }
+        Err(halted) => Some(halted.fault),
+    };
+    drop(served);
+    fault
 }
 
-/// The fault of a serve of one caller, of whose history so many bytes can be written, and those that were.
-fn serve_narrow<
-    R: Threads
-        + Wait
-        + Net<Listener = TcpListener, Stream = TcpStream>
-        + Clock
-        + AllocGlobal
-        + Sync,
->(
-    rt: &R,
-    alloc: Global,
-    listener: &TcpListener,
-    config: &Config,
-    most: usize,
-    full: Full,
-) -> (Option<ServeFault>, Vec<u8>) {
-    let mut sink = WriterSink::new(Narrow {
-        taken: Vec::new(alloc),
-        left: most,
-        full,
-    });
-    let fault = serve_one(rt, alloc, listener, config, &mut sink);
-    let Narrow { taken, .. } = sink.into_inner();
-    (fault, taken)
-}
-
-/// A caller that has sent a Ping and its end.
-fn a_caller<N: Net<Listener = TcpListener, Stream = TcpStream>>(
-    net: &N,
-    at: SocketAddr,
-) -> Result<TcpStream, Fail> {
-    let client = sent(net, at, PING)?;
-    client.shutdown(Shutdown::Write)?;
-    Ok(client)
-}
-
-/// The fault of a serve of such a caller where so many bytes can be written, and whether as many first ones of its history were.
+/// The fault of a serve of a caller that sends a Ping and its end, where so many bytes can be written, and whether as many first ones of
+/// its history were, or all.
 fn written_at_most<
     R: Threads
         + Wait
@@ -144,15 +127,11 @@ fn written_at_most<
         + AllocGlobal
         + Sync,
 >(rt: &R, alloc: Global, most: usize, full: Full) -> Result<(Option<ServeFault>, bool), Fail> {
-    let config = usual(100)?;
-    let listener = a_listener(rt)?;
-    let client = a_caller(rt, listener.local_addr()?)?;
-    let (fault, written) = serve_narrow(rt, alloc, &listener, &config, most, full);
-    drop(client);
-    drop(listener);
-    let is_begun = written.len() == most && ONE_PING.as_bytes().starts_with(&written);
-    drop(written);
-    Ok((fault, is_begun))
+    let called = a_called_listener(rt, PING, true)?;
+    let mut sink = WriterSink::new(Narrow::new(most, full));
+    let fault = serve_one(rt, alloc, &called.listener, &mut sink);
+    drop(called);
+    Ok((fault, sink.into_inner().has_begun()))
 }
 
 /// Each of the first 200 writes that may fail ends the run, and each that may take nothing.
@@ -180,29 +159,10 @@ own eeeeeeeeeeeeeeeeeeeeeeeeeeeeeeee 127.0.0.1 6346 5 40
 end
 ";
 
-/// Whether a serve of such a caller ends well, and writes that.
-fn is_written<
-    R: Threads
-        + Wait
-        + Net<Listener = TcpListener, Stream = TcpStream>
-        + Clock
-        + AllocGlobal
-        + Sync,
->(rt: &R, alloc: Global) -> Result<bool, Fail> {
-    let config = usual(100)?;
-    let listener = a_listener(rt)?;
-    let client = a_caller(rt, listener.local_addr()?)?;
-    let (fault, written) = serve_narrow(rt, alloc, &listener, &config, 1_000_000, Full::Fails);
-    drop(client);
-    drop(listener);
-    let is_right = fault.is_none() && written.as_slice() == ONE_PING.as_bytes();
-    drop(written);
-    Ok(is_right)
-}
-
 #[test]
 fn a_worked_run_is_written(rt: HostRuntime) -> Result<(), Fail> {
-    assert!(rt; is_written(&rt, rt.alloc())?);
+    let (fault, is_whole) = written_at_most(&rt, rt.alloc(), 1_000_000, Full::Fails)?;
+    assert!(rt; fault.is_none() && is_whole);
     Ok(())
 }
 
@@ -228,13 +188,7 @@ fn is_served<
         + AllocGlobal
         + Sync,
 >(rt: &R, alloc: Global, listener: &TcpListener, written: &AtomicU64) -> bool {
-    let Ok(config) = usual(100) else {
-        return false;
-    };
-    let mut sink = WriterSink::new(Counted(written));
-    let fault = serve_one(rt, alloc, listener, &config, &mut sink);
-    drop(sink);
-    fault.is_none()
+    serve_one(rt, alloc, listener, &mut Counted(written)).is_none()
 }
 
 /// Whether such a serve ends well, and its client sees that beside it.
@@ -269,13 +223,11 @@ fn is_seen_and_served<
         + AllocGlobal
         + Sync,
 >(rt: &R, alloc: Global) -> Result<bool, Fail> {
-    let listener = a_listener(rt)?;
-    let mut client = sent(rt, listener.local_addr()?, PING)?;
+    let mut called = a_called_listener(rt, PING, false)?;
     let written = AtomicU64::new(0);
-    let is_right = beside(rt, alloc, &listener, &mut client, &written);
+    let is_right = beside(rt, alloc, &called.listener, &mut called.caller, &written);
     drop(written);
-    drop(client);
-    drop(listener);
+    drop(called);
     Ok(is_right)
 }
 

@@ -2,11 +2,11 @@
 
 ghost use Rattle.std.specs.Prelude.{◌<◌};
 
-use crate::batch::usual_batch;
-use gn_capture::read_history;
+use crate::batch::usual_loading;
+use gn_capture::{CaptureRefusal, read_history};
 use gn_io::{ReaderSource, Sink, Source, WriterSink};
 use gn_links::NoGate;
-use gn_load::{LoadFault, Loading, load, load_journalled};
+use gn_load::{LoadFault, load, load_journalled};
 use gn_replay::{ReplayFault, audit};
 use gn_rules::{Event, Legality, Reply, Step};
 use gn_table_router::TableRouter;
@@ -16,24 +16,21 @@ use std::test::Fail;
 use std::thread::Threads;
 
 /// Appends the line of the Ping of this number, counted from 0.
-fn push_ping(alloc: Global, text: &mut String, ping: u32) -> Result<(), AllocError>
+fn push_ping(text: &mut String, ping: u32) -> Result<(), AllocError>
     requires { ping < 600 }
 {
-    let line = format!(in alloc;
-        "data {} {}a1a1a1a1a1a1a1a1a1a1a1a1a1a100070000000000\n",
+    writeln!(
+        text,
+        "data {} {}a1a1a1a1a1a1a1a1a1a1a1a1a1a100070000000000",
         ping / 100 + 1,
         ping + 1000
-    )?;
-    let pushed = text.push_str(&line);
-    drop(line);
-    pushed
+    )
 }
 
 /// Six links of a hundred Pings each, of TTL 7 and Hops 0, whose IDs differ, under a title and a line of numbers.
-fn six_links(alloc: Global, head: &str) -> Result<String, Fail> {
-    let mut text = String::from_str(alloc, head)?;
-    text.push_str(
-        "\
+fn six_links(alloc: Global, head: &str) -> Result<String, AllocError> {
+    let mut text = format!(in alloc;
+        "{head}\
 own eeeeeeeeeeeeeeeeeeeeeeeeeeeeeeee 127.0.0.1 6346 5 40
 join
 join
@@ -41,10 +38,10 @@ join
 join
 join
 join
-",
+"
     )?;
     for ping in 0..600 {
-        push_ping(alloc, &mut text, ping)?;
+        push_ping(&mut text, ping)?;
     }
     Ok(text)
 }
@@ -104,63 +101,44 @@ fn audit_with_tables<A: Allocator + Copy, S: Source, W: Sink>(
     audit::<A, TableRouter<A>, S, W>(alloc, source, sink)
 }
 
-/// A load, whose history is written while it runs, or then.
-fn load_so<R: Threads + Wait + Sync, S: Source, W: Sink + Send>(
+/// A load of this capture, whose history is written while it runs, or then.
+fn load_so<R: Threads + Wait + Sync, W: Sink + Send>(
     rt: &R,
     alloc: Global,
+    text: &[u8],
     workers: u32,
     is_journalled: bool,
-    source: &mut S,
     sink: &mut W,
 ) -> Result<(), LoadFault> {
-    if is_journalled {
-        let loading = Loading {
-            workers,
-            watch: &NoGate,
-            batch: usual_batch(),
-        };
-        load_journalled(rt, alloc, &loading, source, sink)
+    let mut source = ReaderSource::new(text);
+    let loaded = if is_journalled {
+        let loading = usual_loading(workers, &NoGate);
+        load_journalled(rt, alloc, &loading, &mut source, sink)
     } else {
-        load_with_tables(rt, alloc, workers, source, sink)
-    }
-}
-
-/// The history that a load by so many workers writes.
-fn history_of<R: Threads + Wait + Sync>(
-    rt: &R,
-    alloc: Global,
-    head: &str,
-    workers: u32,
-    is_journalled: bool,
-) -> Result<Vec<u8>, Fail> {
-    let text = six_links(alloc, head)?;
-    let mut source = ReaderSource::new(text.as_bytes());
-    let mut sink = WriterSink::new(Vec::new(alloc));
-    let loaded = load_so(rt, alloc, workers, is_journalled, &mut source, &mut sink);
+        load_with_tables(rt, alloc, workers, &mut source, sink)
+    };
     drop(source);
-    drop(text);
-    let written = sink.into_inner();
-    match loaded {
-        Ok(()) => Ok(written),
-        Err(fault) => {
-            drop(written);
-            Err(fault.into())
-        }
-    }
+    loaded
 }
 
-/// Whether an audit finds a history legal, and writes that it has so many steps.
-pub(crate) fn is_legal(alloc: Global, history: &[u8], steps: usize) -> Result<bool, Fail> {
-    let judged = format!(in alloc; "legal {steps}\n")?;
+/// Whether an audit finds a history legal, and writes this.
+fn is_judged(alloc: Global, history: &[u8], judged: &[u8]) -> bool {
     let mut source = ReaderSource::new(history);
     let mut sink = WriterSink::new(Vec::new(alloc));
     let legality = audit_with_tables(alloc, &mut source, &mut sink);
     drop(source);
     let written = sink.into_inner();
-    let is_judged = written.as_slice() == judged.as_bytes();
+    let is_judged = written.as_slice() == judged;
     drop(written);
+    matches!(legality, Ok(Legality::Legal)) && is_judged
+}
+
+/// Whether an audit finds a history legal, and writes that it has so many steps.
+pub(crate) fn is_legal(alloc: Global, history: &[u8], steps: usize) -> Result<bool, Fail> {
+    let judged = format!(in alloc; "legal {steps}\n")?;
+    let is_legal = is_judged(alloc, history, judged.as_bytes());
     drop(judged);
-    Ok(legality? == Legality::Legal && is_judged)
+    Ok(is_legal)
 }
 
 /// How many of these steps are of each kind.
@@ -180,19 +158,36 @@ fn kinds_of(steps: &[Step]) -> Kinds {
     kinds
 }
 
-/// The kinds of the steps of a history, which is legal.
-fn kinds_of_history(alloc: Global, history: &[u8]) -> Result<Kinds, Fail> {
+/// The kinds of the steps of a history, and how many these are.
+fn kinds_of_history(alloc: Global, history: &[u8]) -> Result<(Kinds, usize), CaptureRefusal> {
     let (_, steps) = read_history(alloc, history)?;
-    let (kinds, count) = (kinds_of(steps.as_slice()), steps.len());
-    drop(steps);
-    if is_legal(alloc, history, count)? {
+    Ok((kinds_of(steps.as_slice()), steps.len()))
+}
+
+/// The kinds of the steps of a history, which is legal.
+fn kinds_of_legal(alloc: Global, history: &[u8]) -> Result<Kinds, Fail> {
+    let (kinds, steps) = kinds_of_history(alloc, history)?;
+    if is_legal(alloc, history, steps)? {
         Ok(kinds)
     } else {
         Err("a legal history".into())
     }
 }
 
-/// The kinds of the steps of a load by so many workers, whose history is legal.
+/// The history that a load of this capture by so many workers writes.
+fn history_of<R: Threads + Wait + Sync>(
+    rt: &R,
+    alloc: Global,
+    text: &[u8],
+    workers: u32,
+    is_journalled: bool,
+) -> Result<Vec<u8>, LoadFault> {
+    let mut sink = WriterSink::new(Vec::new(alloc));
+    load_so(rt, alloc, text, workers, is_journalled, &mut sink)?;
+    Ok(sink.into_inner())
+}
+
+/// The kinds of the steps of a load of six links by so many workers, whose history is legal.
 fn kinds_of_load<R: Threads + Wait + Sync>(
     rt: &R,
     alloc: Global,
@@ -200,10 +195,10 @@ fn kinds_of_load<R: Threads + Wait + Sync>(
     workers: u32,
     is_journalled: bool,
 ) -> Result<Kinds, Fail> {
-    let history = history_of(rt, alloc, head, workers, is_journalled)?;
-    let kinds = kinds_of_history(alloc, history.as_slice());
-    drop(history);
-    kinds
+    let text = six_links(alloc, head)?;
+    let history = history_of(rt, alloc, text.as_bytes(), workers, is_journalled);
+    drop(text);
+    kinds_of_legal(alloc, history?.as_slice())
 }
 
 #[test]

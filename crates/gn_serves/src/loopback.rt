@@ -1,22 +1,26 @@
 //! Runs over the loopback, with both ends in one process: the run in one thread, and what its peers do in another.
 
 pub(crate) mod peers;
+mod rows;
+mod run;
+mod seen;
 
 use crate::in_time::watch;
 use crate::wanted::a_listener;
-use gn_bodies::{ReaderEnd, WriterEnd};
 use gn_fixtures::usual;
 use gn_io::{Sink, WriterSink};
 use gn_links::{NoGate, Watch};
 use gn_load::{ServeFault, serve_history};
 use gn_report::Report;
 use gn_rules::Config;
-use gn_run_fixtures::a_report;
 use gn_service::{Batch, Serve, Serving, serve_on};
 use gn_table_router::TableRouter;
 use gn_tcp::{TcpReader, TcpWriter};
 use gn_threads::RunFault;
 use peers::{LATE, Peer, play};
+pub(crate) use rows::{Row, all_are_found};
+pub(crate) use run::{Run, StopBy};
+pub(crate) use seen::{DRAINED, Ends, Seen};
 use std::alloc::{Allocator, Global};
 use std::net::{Ipv4Addr, Net, SocketAddr, TcpListener, TcpStream};
 use std::process::Abort;
@@ -28,10 +32,7 @@ use std::thread::Threads;
 use std::time::Clock;
 
 /// What such a run returns, over a memory without limit.
-pub(crate) type TcpReport<'s> = Report<TcpReader<'s>, TcpWriter>;
-
-/// How the bodies end of a link whose peer sent all it had to, and was sent all that was for it.
-pub(crate) const DRAINED: (ReaderEnd, WriterEnd) = (ReaderEnd::Bytes, WriterEnd::Drained);
+type TcpReport<'s> = Report<TcpReader<'s>, TcpWriter>;
 
 /// A run of at most so many steps over the table router with one worker, within these limits.
 pub(crate) fn serve<
@@ -134,28 +135,70 @@ fn serve_to<
     }
 }
 
+/// What is seen of such a run.
+pub(crate) fn seen_at<
+    R: Threads
+        + Wait
+        + Net<Listener = TcpListener, Stream = TcpStream>
+        + Clock
+        + AllocGlobal
+        + Sync,
+>(
+    rt: &R,
+    alloc: Global,
+    listener: &TcpListener,
+    steps: u32,
+    accept: u32,
+    called: &[SocketAddr],
+    serving: &Serving<'_>,
+) -> Result<Seen, RunFault> {
+    match serve(rt, alloc, listener, steps, accept, called, serving) {
+        Ok(report) => Ok(Seen::of(&report)),
+        Err(fault) => Err(fault),
+    }
+}
+
+/// The fault of such a run without other limits, where it has one.
+pub(crate) fn fault_of<
+    R: Threads
+        + Wait
+        + Net<Listener = TcpListener, Stream = TcpStream>
+        + Clock
+        + AllocGlobal
+        + Sync,
+>(
+    rt: &R,
+    alloc: Global,
+    listener: &TcpListener,
+    steps: u32,
+    accept: u32,
+    called: &[SocketAddr],
+) -> Option<RunFault> {
+    seen_at(
+        rt,
+        alloc,
+        listener,
+        steps,
+        accept,
+        called,
+        &Serving::UNLIMITED,
+    )
+    .err()
+}
+
+/// Ends the test where a run has another fault than this.
+pub(crate) fn must_fail<R: Abort>(rt: &R, fault: Option<RunFault>, wanted: RunFault) {
+    assert_eq!(rt; fault, Some(wanted));
+}
+
 /// Two mistakes after which a client waits for ever, for its consent or for its Pong.
 const UNSERVED: &str =
     "a run that isn't over within 20 seconds: a writer waits at the door of another's link, or an intake \
      tells no outlet of its job";
 
-/// Whom the run calls, where its peer is called: one that waits there, or one that comes late.
-fn called_at(peer: Peer, there: SocketAddr) -> SocketAddr {
-    match peer {
-        Peer::CalledLate => SocketAddr::from((Ipv4Addr::LOCALHOST, LATE)),
-        _ => there,
-    }
-}
-
-/// Whom the run calls of these: nobody, where its peers call it.
-fn called_of(there: &[SocketAddr], peer: Peer) -> &[SocketAddr] {
-    if peer.is_called() { there } else { &there[..0] }
-}
-
-/// Whether the peers of such a run heard what they had to, and what it answers. The test ends where a run that is brief isn't
+/// Whether the peers of such a run heard what they had to, and what is seen of it. The test ends where a run that is brief isn't
 /// over within 20 seconds of its peers.
 fn beside<
-    's,
     R: Threads
         + Wait
         + Net<Listener = TcpListener, Stream = TcpStream>
@@ -166,91 +209,55 @@ fn beside<
 >(
     rt: &R,
     alloc: Global,
-    listener: &TcpListener,
+    run: &Run,
+    listeners: &Listeners,
     at: SocketAddr,
-    theirs: &TcpListener,
-    peer: Peer,
-    steps: u32,
-    accept: u32,
     called: &[SocketAddr],
-    serving: &Serving<'s>,
-) -> (bool, Result<TcpReport<'s>, RunFault>) {
+    serving: &Serving<'_>,
+) -> (bool, Result<Seen, RunFault>) {
     let is_over = AtomicBool::new(false);
     let is_over = &is_over;
     thread::join(
         rt,
         move || {
-            let played = play(rt, at, theirs, peer, serving);
-            if peer.is_brief() {
+            let played = play(rt, at, &listeners.theirs, run.peer, serving);
+            if run.peer.is_brief() {
                 watch(rt, is_over, UNSERVED);
             }
             played
         },
         move || {
-            let served = serve(rt, alloc, listener, steps, accept, called, serving);
+            let seen = seen_at(
+                rt,
+                alloc,
+                &listeners.own,
+                run.steps,
+                run.accept,
+                called,
+                serving,
+            );
             is_over.store(true, Ordering::SeqCst);
-            served
+            seen
         },
     )
 }
 
-/// The report of such a run, whose peers have heard what they had to.
-fn report_at<
-    's,
-    R: Threads
-        + Wait
-        + Net<Listener = TcpListener, Stream = TcpStream>
-        + Sync
-        + Abort
-        + Clock
-        + AllocGlobal,
->(
-    rt: &R,
-    alloc: Global,
-    listener: &TcpListener,
-    theirs: &TcpListener,
-    peer: Peer,
-    steps: u32,
-    accept: u32,
-    called: &[SocketAddr],
-    serving: &Serving<'s>,
-) -> Result<TcpReport<'s>, Fail> {
-    let at = listener.local_addr()?;
-    let (is_good, served) = beside(
-        rt, alloc, listener, at, theirs, peer, steps, accept, called, serving,
-    );
-    if !is_good {
-        drop(served);
-        return Err("what a peer has to hear".into());
-    }
-    a_report(served)
+/// A run's listener, and the one where its peer is called.
+#[derive(Drop)]
+pub(crate) struct Listeners {
+    pub(crate) own: TcpListener,
+    pub(crate) theirs: TcpListener,
 }
 
-/// The same of a run that calls its peer, or is called by it.
-pub(crate) fn report_of<
-    's,
-    R: Threads
-        + Wait
-        + Net<Listener = TcpListener, Stream = TcpStream>
-        + Sync
-        + Abort
-        + Clock
-        + AllocGlobal,
->(
-    rt: &R,
-    alloc: Global,
-    peer: Peer,
-    steps: u32,
-    accept: u32,
-    serving: &Serving<'s>,
-) -> Result<TcpReport<'s>, Fail> {
-    let listener = a_listener(rt)?;
-    let theirs = a_listener(rt)?;
-    let there = [called_at(peer, theirs.local_addr()?)];
-    let called = called_of(&there, peer);
-    report_at(
-        rt, alloc, &listener, &theirs, peer, steps, accept, called, serving,
-    )
+/// Two listeners on this machine.
+pub(crate) fn two_listeners<N: Net<Listener = TcpListener, Stream = TcpStream>>(
+    net: &N,
+) -> Result<Listeners, Fail> {
+    let own = a_listener(net)?;
+    match a_listener(net) {
+        Ok(theirs) => Ok(Listeners { own, theirs }),
+        Err(fail) => Err(fail),
+    }
 }
 
 /// An address where nobody listens.
@@ -258,23 +265,51 @@ pub(crate) fn nobody<N: Net<Listener = TcpListener, Stream = TcpStream>>(
     net: &N,
 ) -> Result<SocketAddr, Fail> {
     let listener = a_listener(net)?;
-    let at = listener.local_addr()?;
+    let at = listener.local_addr();
     drop(listener);
-    Ok(at)
+    Ok(at?)
 }
 
-/// Whom the run calls of its peer and another: only that one, where its peer calls it.
-fn called_of_both(both: &[SocketAddr; 2], peer: Peer) -> &[SocketAddr] {
-    if peer.is_called() {
-        both.as_slice()
-    } else {
-        &both[1..]
+/// Whom the run calls, where its peer is called: one that waits there, or one that comes late.
+fn called_at(peer: Peer, theirs: &TcpListener) -> Result<SocketAddr, Fail> {
+    match peer {
+        Peer::CalledLate => Ok(SocketAddr::from((Ipv4Addr::LOCALHOST, LATE))),
+        _ => Ok(theirs.local_addr()?),
     }
 }
 
-/// The same of a run of 100 steps that, after its peer, also calls one that isn't there.
-pub(crate) fn report_beside_nobody<
-    's,
+/// Its peer, and another that a run calls after it, or only one of the two, or nobody.
+fn called_of<'a>(run: &Run, both: &'a [SocketAddr; 2]) -> &'a [SocketAddr] {
+    match (run.peer.is_called(), run.calls_nobody) {
+        (true, true) => both.as_slice(),
+        (true, false) => &both[..1],
+        (false, true) => &both[1..],
+        (false, false) => &both[..0],
+    }
+}
+
+/// The addresses of a run's peer and of that other, where there is one.
+fn both_of<N: Net<Listener = TcpListener, Stream = TcpStream>>(
+    net: &N,
+    run: &Run,
+    theirs: &TcpListener,
+) -> Result<[SocketAddr; 2], Fail> {
+    let peer = called_at(run.peer, theirs)?;
+    let other = if run.calls_nobody { nobody(net)? } else { peer };
+    Ok([peer, other])
+}
+
+/// What is seen of a run, where its peers heard what they had to.
+fn where_heard(have_heard: bool, seen: Result<Seen, RunFault>) -> Result<Seen, Fail> {
+    match seen {
+        _ if !have_heard => Err("what a peer has to hear".into()),
+        Ok(seen) => Ok(seen),
+        Err(_) => Err("a report".into()),
+    }
+}
+
+/// What is seen of a run at these listeners, whose peers have heard what they had to.
+fn seen_between<
     R: Threads
         + Wait
         + Net<Listener = TcpListener, Stream = TcpStream>
@@ -282,38 +317,26 @@ pub(crate) fn report_beside_nobody<
         + Abort
         + Clock
         + AllocGlobal,
->(
-    rt: &R,
-    alloc: Global,
-    peer: Peer,
-    accept: u32,
-    serving: &Serving<'s>,
-) -> Result<TcpReport<'s>, Fail> {
-    let nobody = nobody(rt)?;
-    let listener = a_listener(rt)?;
-    let theirs = a_listener(rt)?;
-    let both = [theirs.local_addr()?, nobody];
-    let called = called_of_both(&both, peer);
-    report_at(
-        rt, alloc, &listener, &theirs, peer, 100, accept, called, serving,
-    )
+>(rt: &R, alloc: Global, run: &Run, listeners: &Listeners) -> Result<Seen, Fail> {
+    let at = listeners.own.local_addr()?;
+    let both = both_of(rt, run, &listeners.theirs)?;
+    let called = called_of(run, &both);
+    let stop = run.stop();
+    let serving = run.serving(&stop);
+    let (have_heard, seen) = beside(rt, alloc, run, listeners, at, called, &serving);
+    where_heard(have_heard, seen)
 }
 
-/// Whether the links of a run from this number on, up to that one, ended so.
-pub(crate) fn have_ended(
-    report: &TcpReport<'_>,
-    first: usize,
-    end: usize,
-    ends: (ReaderEnd, WriterEnd),
-) -> bool {
-    let (reader, writer) = ends;
-    let Some(links) = report.links.as_slice().get(first..end) else {
-        return false;
-    };
-    for link in links {
-        if link.reader_end != reader || link.writer_end != writer {
-            return false;
-        }
-    }
-    true
+/// What is seen of a run whose peers have heard what they had to.
+pub(crate) fn seen_of<
+    R: Threads
+        + Wait
+        + Net<Listener = TcpListener, Stream = TcpStream>
+        + Sync
+        + Abort
+        + Clock
+        + AllocGlobal,
+>(rt: &R, alloc: Global, run: &Run) -> Result<Seen, Fail> {
+    let listeners = two_listeners(rt)?;
+    seen_between(rt, alloc, run, &listeners)
 }

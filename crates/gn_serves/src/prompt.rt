@@ -1,10 +1,9 @@
 //! Runs over the loopback that wait for nobody: small packets go out at once, and a run that has failed lets its peers go.
 
 use crate::loopback::peers::{Peer, sent};
-use crate::loopback::{report_of, serve};
+use crate::loopback::{Run, fault_of, must_fail, seen_of};
 use crate::wanted::a_listener;
 use gn_fixtures::PING;
-use gn_service::Serving;
 use gn_threads::RunFault;
 use std::alloc::Global;
 use std::net::{Net, TcpListener, TcpStream};
@@ -18,6 +17,13 @@ use std::time::{Clock, Duration, Instant};
 /// each time takes 2 seconds at least; where the machine is busy, one may be late by chance.
 const ROUNDS: u8 = 5;
 
+/// The run of two clients that send in turn.
+static IN_TURN: Run = Run {
+    peer: Peer::Turns,
+    steps: 2000,
+    ..Run::USUAL
+};
+
 /// Whether two clients send in turn within a second.
 fn are_prompt<
     R: Threads
@@ -29,7 +35,7 @@ fn are_prompt<
         + AllocGlobal,
 >(rt: &R, alloc: Global) -> Result<bool, Fail> {
     let begun = Instant::now(rt)?;
-    drop(report_of(rt, alloc, Peer::Turns, 2000, 2, &Serving::UNLIMITED)?);
+    seen_of(rt, alloc, &IN_TURN)?;
     Ok(begun.elapsed(rt)? < Duration::from_secs(1))
 }
 
@@ -56,11 +62,10 @@ fn fault_beside_two<
     let at = listener.local_addr()?;
     let silent = sent(rt, at, b"")?;
     let loud = sent(rt, at, PING)?;
-    let served = serve(rt, alloc, &listener, 3, 4, &[], &Serving::UNLIMITED);
+    let fault = fault_of(rt, alloc, &listener, 3, 4, &[]);
     drop(loud);
     drop(silent);
-    drop(listener);
-    Ok(served.err())
+    Ok(fault)
 }
 
 /// A caller that says nothing after its greeting, beside one that fills a history of three steps. Both stay, and nobody else
@@ -68,6 +73,6 @@ fn fault_beside_two<
 #[test]
 fn a_full_history_waits_for_nobody(rt: HostRuntime) -> Result<(), Fail> {
     let fault = fault_beside_two(&rt, rt.alloc())?;
-    assert_eq!(rt; fault, Some(RunFault::HistoryFull));
+    must_fail(&rt, fault, RunFault::HistoryFull);
     Ok(())
 }

@@ -3,10 +3,9 @@
 ghost use Rattle.std.specs.Prelude.{true};
 
 use crate::batch::usual_batch;
-use crate::loopback::peers::sent;
-use crate::wanted::a_listener;
+use crate::wanted::a_called_listener;
 use gn_fixtures::usual;
-use gn_io::WriterSink;
+use gn_io::{Sink, WriterSink};
 use gn_links::NoGate;
 use gn_load::serve_past_journalled;
 use gn_report::LinkAccount;
@@ -14,7 +13,7 @@ use gn_rules::{Event, Receipt, Refusal, Reply, is_same_reply};
 use gn_service::{Any, Parting, Past, Recall, RunFault, Serve, Serving, Stop};
 use gn_tcp::{TcpReader, TcpWriter};
 use std::alloc::{Allocator, Global};
-use std::net::{Net, Shutdown, SocketAddr, TcpListener, TcpStream};
+use std::net::{Net, TcpListener, TcpStream};
 use std::sync::Wait;
 use std::test::Fail;
 use std::thread::Threads;
@@ -46,6 +45,15 @@ struct Before {
     second: u32,
 }
 
+/// Whether this is answered, and as before, where that is known.
+fn is_as_before<A: Allocator>(recall: &Recall<A>, answer: &Result<Receipt<A>, Refusal>) -> bool {
+    match (&recall.reply, answer) {
+        (_, Err(_)) => false,
+        (Some(reply), Ok(receipt)) => is_same_reply(reply, &receipt.reply),
+        (None, Ok(_)) => true,
+    }
+}
+
 impl Past for Before {
     ghost recalls = { λ _. true };
 
@@ -66,43 +74,32 @@ impl Past for Before {
         recall: Recall<A>,
         answer: Result<Receipt<A>, Refusal>,
     ) -> Result<(), RunFault> {
-        match (&recall.reply, &answer) {
-            (_, Err(_)) => Err(RunFault::NoMemory),
-            (Some(reply), Ok(receipt)) if !is_same_reply(reply, &receipt.reply) => {
-                Err(RunFault::NoMemory)
-            }
-            _ => Ok(()),
+        let is_as_before = is_as_before(&recall, &answer);
+        drop(answer);
+        drop(recall);
+        if is_as_before {
+            Ok(())
+        } else {
+            Err(RunFault::NoMemory)
         }
     }
 }
 
-/// Somebody who calls, and says no more than the greeting.
-fn a_caller<N: Net<Listener = TcpListener, Stream = TcpStream>>(
-    net: &N,
-    at: SocketAddr,
-) -> Result<TcpStream, Fail> {
-    let client = sent(net, at, b"")?;
-    client.shutdown(Shutdown::Write)?;
-    Ok(client)
-}
-
-/// What a serve writes that goes on with these, is called by somebody, and is stopped then; where it ends well.
-fn written<
+/// Whether a serve ends well that goes on with these steps, is called by somebody, and is stopped by this.
+fn ends_well<
     R: Threads
         + Wait
         + Net<Listener = TcpListener, Stream = TcpStream>
         + Clock
         + AllocGlobal
         + Sync,
->(rt: &R, alloc: Global, past: Before) -> Result<Option<Vec<u8>>, Fail> {
-    let listener = a_listener(rt)?;
-    let client = a_caller(rt, listener.local_addr()?)?;
+    W: Sink + Send,
+>(rt: &R, alloc: Global, listener: &TcpListener, stop: &Stop, past: Before, sink: &mut W) -> bool {
     let Ok(config) = usual(10_000) else {
-        return Ok(None);
+        return false;
     };
-    let stop = Stop::new(Some(Duration::from_secs(1)), false);
     let serve = Serve {
-        listener: &listener,
+        listener,
         config: &config,
         peers: &[],
         accept: Any {
@@ -113,35 +110,53 @@ fn written<
         },
         workers: 2,
         limits: Serving {
-            stop: Some(&stop),
+            stop: Some(stop),
             ..Serving::UNLIMITED
         },
         watch: &NoGate,
         batch: usual_batch(),
     };
+    let served = serve_past_journalled(rt, alloc, &serve, past, sink);
+    let ends_well = served.is_ok();
+    drop(served);
+    ends_well
+}
+
+/// Whether such a serve ends well, and whether its history begins as it has to. The later connection had this number before; who calls
+/// says no more than the greeting.
+fn is_resumed<
+    R: Threads
+        + Wait
+        + Net<Listener = TcpListener, Stream = TcpStream>
+        + Clock
+        + AllocGlobal
+        + Sync,
+>(rt: &R, alloc: Global, second: u32) -> Result<(bool, bool), Fail> {
+    let called = a_called_listener(rt, b"", true)?;
+    let stop = Stop::new(Some(Duration::from_secs(1)), false);
+    let before = Before { made: 0, second };
     let mut sink = WriterSink::new(Vec::new(alloc));
-    let served = serve_past_journalled(rt, alloc, &serve, past, &mut sink);
-    drop(client);
-    match served {
-        Ok(_) => Ok(Some(sink.into_inner())),
-        Err(_) => Ok(None),
-    }
+    let ends_well = ends_well(rt, alloc, &called.listener, &stop, before, &mut sink);
+    drop(stop);
+    drop(called);
+    let written = sink.into_inner();
+    let is_begun = written.starts_with(HISTORY.as_bytes());
+    drop(written);
+    Ok((ends_well, is_begun))
 }
 
 /// The steps of before are the first of the history, which the house makes, in order; who calls is let in after them.
 #[test]
 fn steps_of_before_come_first(rt: HostRuntime) -> Result<(), Fail> {
-    let before = Before { made: 0, second: 2 };
-    let written = written(&rt, rt.alloc(), before)?;
-    assert!(rt; matches!(&written, Some(text) if text.starts_with(HISTORY.as_bytes())));
+    let (ends_well, is_begun) = is_resumed(&rt, rt.alloc(), 2)?;
+    assert!(rt; ends_well && is_begun);
     Ok(())
 }
 
 /// Where the rules answer otherwise than before, who knows these steps ends the run.
 #[test]
 fn other_replies_end_the_run(rt: HostRuntime) -> Result<(), Fail> {
-    let before = Before { made: 0, second: 7 };
-    let written = written(&rt, rt.alloc(), before)?;
-    assert!(rt; written.is_none());
+    let (ends_well, _) = is_resumed(&rt, rt.alloc(), 7)?;
+    assert!(rt; !ends_well);
     Ok(())
 }

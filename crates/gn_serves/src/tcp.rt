@@ -9,50 +9,42 @@ use std::sync::Wait;
 use std::test::Fail;
 use std::time::Duration;
 
-/// One of the two ends of a link.
-fn a_link(link: Result<TcpLink<'static>, LinkFault>) -> Result<TcpLink<'static>, Fail> {
-    match link {
-        Ok(link) => Ok(link),
-        Err(_) => Err("a link".into()),
-    }
+/// The halves of a link.
+type Halves = (TcpReader<'static>, TcpWriter);
+
+/// How a link is made.
+#[derive(Clone, Copy)]
+enum Manner {
+    /// As any is.
+    Usual,
+    /// What was written is waited for.
+    Lingering,
+    /// Its reads wait for a fiftieth of a second at most.
+    Hasty,
 }
 
-/// The halves of a link.
-fn halves(link: TcpLink<'static>) -> Result<(TcpReader<'static>, TcpWriter), Fail> {
-    match link.split() {
-        Ok(halves) => Ok(halves),
-        Err(_) => Err("halves".into()),
-    }
+/// The halves of a link that is accepted.
+fn answered(listener: &TcpListener, manner: Manner) -> Result<Halves, LinkFault> {
+    let link = TcpLink::accept(listener)?;
+    let link = match manner {
+        Manner::Usual => link,
+        Manner::Lingering => link.lingering(),
+        Manner::Hasty => link.with_idle(Some(Duration::from_millis(20))),
+    };
+    link.split()
 }
 
 /// A peer that has called there, and whose writes wait for a fifth of a second at most.
 fn a_caller<N: Net<Listener = TcpListener, Stream = TcpStream>>(
     net: &N,
-    at: SocketAddr,
+    listener: &TcpListener,
 ) -> io::Result<TcpStream> {
-    let peer = TcpStream::connect(net, at)?;
+    let peer = TcpStream::connect(net, listener.local_addr()?)?;
     peer.set_write_timeout(Some(Duration::from_millis(200)))?;
     Ok(peer)
 }
 
-/// A link that a listener accepted, and the peer that called it.
-fn accepted<N: Net<Listener = TcpListener, Stream = TcpStream>>(
-    net: &N,
-) -> Result<(TcpLink<'static>, TcpStream), Fail> {
-    let listener = a_listener(net)?;
-    let peer = a_caller(net, listener.local_addr()?)?;
-    let link = TcpLink::accept(&listener);
-    drop(listener);
-    match link {
-        Ok(link) => Ok((link, peer)),
-        Err(_) => {
-            drop(peer);
-            Err("a link".into())
-        }
-    }
-}
-
-/// The halves of an accepted link, and the peer that called it.
+/// The halves of a link that a listener accepted, and the peer that called it.
 #[derive(Drop)]
 struct Ends {
     reader: TcpReader<'static>,
@@ -60,19 +52,26 @@ struct Ends {
     peer: TcpStream,
 }
 
-/// Both ends of this link.
-fn ends_of(link: TcpLink<'static>, peer: TcpStream) -> Result<Ends, Fail> {
-    match link.split() {
+/// Both ends of a link with this peer, who has called.
+fn ends_of(listener: &TcpListener, manner: Manner, peer: TcpStream) -> Result<Ends, Fail> {
+    match answered(listener, manner) {
         Ok((reader, writer)) => Ok(Ends {
             reader,
             writer,
             peer,
         }),
-        Err(_) => {
-            drop(peer);
-            Err("halves".into())
-        }
+        Err(_) => Err("a link".into()),
     }
+}
+
+/// Both ends of a new link.
+fn new_ends<N: Net<Listener = TcpListener, Stream = TcpStream>>(
+    net: &N,
+    manner: Manner,
+) -> Result<Ends, Fail> {
+    let listener = a_listener(net)?;
+    let peer = a_caller(net, &listener)?;
+    ends_of(&listener, manner, peer)
 }
 
 /// What a write to a link gives. It has no clause, as the two after it: a test's own proof would carry each of them along.
@@ -90,6 +89,13 @@ fn finish<R: Wait>(rt: &R, writer: &mut TcpWriter) {
     writer.finish(rt);
 }
 
+/// Whether exactly these bytes come next, at most 8.
+fn reads<R: Wait>(rt: &R, reader: &mut TcpReader<'static>, bytes: &[u8]) -> bool {
+    let mut room = [0u8; 8];
+    let n = bytes.len().min(8);
+    reader.read(rt, &mut room[..n]) == Ok(n) && &room[..n] == bytes
+}
+
 /// Whether one end writes these bytes, at most 8, and the other reads them.
 fn are_carried<R: Wait>(
     rt: &R,
@@ -97,19 +103,11 @@ fn are_carried<R: Wait>(
     reader: &mut TcpReader<'static>,
     bytes: &[u8],
 ) -> bool {
-    let mut room = [0u8; 8];
-    let n = bytes.len().min(8);
-    write(rt, writer, bytes) == Ok(n)
-        && reader.read(rt, &mut room[..n]) == Ok(n)
-        && &room[..n] == bytes
+    write(rt, writer, bytes) == Ok(bytes.len()) && reads(rt, reader, bytes)
 }
 
 /// Whether two ends of a link carry bytes both ways, and an end that is finished has both readers end.
-fn are_linked<R: Wait>(
-    rt: &R,
-    near: &mut (TcpReader<'static>, TcpWriter),
-    far: &mut (TcpReader<'static>, TcpWriter),
-) -> bool {
+fn are_linked<R: Wait>(rt: &R, near: &mut Halves, far: &mut Halves) -> bool {
     let are_both_ways = are_carried(rt, &mut near.1, &mut far.0, b"GNU")
         && are_carried(rt, &mut far.1, &mut near.0, b"TELLA");
     finish(rt, &mut near.1);
@@ -120,22 +118,18 @@ fn are_linked<R: Wait>(
 fn called<N: Net<Listener = TcpListener, Stream = TcpStream>>(
     net: &N,
     there: SocketAddr,
-) -> Result<(TcpReader<'static>, TcpWriter), Fail> {
-    halves(a_link(TcpLink::call(net, there))?)
-}
-
-/// The halves of a link that is accepted.
-fn answered(listener: &TcpListener) -> Result<(TcpReader<'static>, TcpWriter), Fail> {
-    halves(a_link(TcpLink::accept(listener))?)
+) -> Result<Halves, LinkFault> {
+    TcpLink::call(net, there)?.split()
 }
 
 /// Whether a link that is called there and the one that is accepted are linked.
 fn is_linked_at<R: Net<Listener = TcpListener, Stream = TcpStream> + Wait>(
     rt: &R,
     listener: &TcpListener,
-) -> Result<bool, Fail> {
-    let mut near = called(rt, listener.local_addr()?)?;
-    let mut far = answered(listener)?;
+    there: SocketAddr,
+) -> Result<bool, LinkFault> {
+    let mut near = called(rt, there)?;
+    let mut far = answered(listener, Manner::Usual)?;
     let are_linked = are_linked(rt, &mut near, &mut far);
     drop(far);
     drop(near);
@@ -147,9 +141,8 @@ fn is_linked<R: Net<Listener = TcpListener, Stream = TcpStream> + Wait>(
     rt: &R,
 ) -> Result<bool, Fail> {
     let listener = a_listener(rt)?;
-    let is_linked = is_linked_at(rt, &listener);
-    drop(listener);
-    is_linked
+    let there = listener.local_addr()?;
+    Ok(is_linked_at(rt, &listener, there)?)
 }
 
 #[test]
@@ -186,12 +179,11 @@ fn fails<R: Wait>(rt: &R, reader: &mut TcpReader<'static>, writer: &mut TcpWrite
 fn is_reset<R: Net<Listener = TcpListener, Stream = TcpStream> + Wait>(
     rt: &R,
 ) -> Result<bool, Fail> {
-    let (link, peer) = accepted(rt)?;
     let Ends {
         mut reader,
         mut writer,
         peer,
-    } = ends_of(link, peer)?;
+    } = new_ends(rt, Manner::Usual)?;
     let is_reset = is_left_unread(rt, &mut writer, peer) && fails(rt, &mut reader, &mut writer);
     drop(writer);
     drop(reader);
@@ -205,34 +197,34 @@ fn a_reset_is_a_fault(rt: HostRuntime) -> Result<(), Fail> {
     Ok(())
 }
 
-/// Whether the system refuses what a peer sends, and doesn't let it wait.
-fn is_refused(peer: &mut TcpStream, bytes: &[u8]) -> bool {
-    match peer.write_all(bytes) {
-        Ok(()) => false,
-        Err(why) => matches!(
-            why.kind(),
-            ErrorKind::BrokenPipe | ErrorKind::ConnectionReset
-        ),
+/// Whether the system refuses one of so many writes of a peer, of 4,000 bytes each, and lets none wait.
+fn is_refused(peer: &mut TcpStream, writes: u32) -> bool {
+    for _ in 0..writes {
+        if let Err(why) = peer.write_all(&[7u8; 4000]) {
+            return matches!(
+                why.kind(),
+                ErrorKind::BrokenPipe | ErrorKind::ConnectionReset
+            );
+        }
     }
+    false
 }
 
 /// Whether a finished writer lets its peer go, which hears the end and is refused what it sends then.
-fn is_let_go<R: Wait>(rt: &R, ends: &mut Ends, many: &[u8]) -> bool {
+fn is_let_go<R: Wait>(rt: &R, ends: &mut Ends) -> bool {
     finish(rt, &mut ends.writer);
     takes(&mut ends.peer, 0)
         && read(rt, &mut ends.reader) == Ok(0)
-        && is_refused(&mut ends.peer, many)
+        && is_refused(&mut ends.peer, 4000)
         && write(rt, &mut ends.writer, b"more") == Err(LinkFault)
 }
 
 /// The same of a new link.
 fn lets_go<R: Net<Listener = TcpListener, Stream = TcpStream> + Wait>(
     rt: &R,
-    many: &[u8],
 ) -> Result<bool, Fail> {
-    let (link, peer) = accepted(rt)?;
-    let mut ends = ends_of(link, peer)?;
-    let is_let_go = is_let_go(rt, &mut ends, many);
+    let mut ends = new_ends(rt, Manner::Usual)?;
+    let is_let_go = is_let_go(rt, &mut ends);
     drop(ends);
     Ok(is_let_go)
 }
@@ -240,39 +232,40 @@ fn lets_go<R: Net<Listener = TcpListener, Stream = TcpStream> + Wait>(
 /// What a peer sends after the writer was finished is refused, though the halves are still there; the reader waits no longer.
 #[test]
 fn a_peer_is_let_go_by_a_finished_writer(rt: HostRuntime) -> Result<(), Fail> {
-    let many = vec![in rt.alloc(); 7u8; 16_000_000]?;
-    let lets_go = lets_go(&rt, many.as_slice());
-    drop(many);
-    assert!(rt; lets_go?);
+    assert!(rt; lets_go(&rt)?);
     Ok(())
+}
+
+/// Whether the system takes what a peer sends.
+fn sends(peer: &mut TcpStream, bytes: &[u8]) -> bool {
+    peer.write_all(bytes).is_ok()
 }
 
 /// Whether all that is owed to a peer is written, which sends before and after that; and both halves are finished.
 fn is_written<R: Wait>(rt: &R, ends: &mut Ends, owed: &[u8]) -> bool {
-    let is_sent = ends.peer.write_all(b"some").is_ok();
+    let is_sent = sends(&mut ends.peer, b"some");
     let is_written = write(rt, &mut ends.writer, owed) == Ok(owed.len());
     finish(rt, &mut ends.writer);
-    let is_sent = is_sent && ends.peer.write_all(b"more").is_ok();
+    let is_more_sent = sends(&mut ends.peer, b"more");
     let has_ended = ends.peer.shutdown(Shutdown::Write).is_ok();
     ends.reader.finish(rt);
-    is_sent && is_written && has_ended
+    is_sent && is_written && is_more_sent && has_ended
 }
 
 /// Whether a peer reads exactly this, and then the end.
-fn is_read(peer: &mut TcpStream, owed: &[u8], room: &mut [u8]) -> bool {
-    peer.read_exact(room).is_ok() && &*room == owed && takes(peer, 0)
+fn is_read(peer: &mut TcpStream, owed: &[u8; 100_000]) -> bool {
+    let mut room = [0u8; 100_000];
+    peer.read_exact(&mut room).is_ok() && room.as_slice() == owed.as_slice() && takes(peer, 0)
 }
 
 /// Whether a peer of a new link gets all that is owed to it, and then the end: it goes on sending, and both halves are finished
 /// before it reads.
 fn gets_all<R: Net<Listener = TcpListener, Stream = TcpStream> + Wait>(
     rt: &R,
-    owed: &[u8],
-    room: &mut [u8],
 ) -> Result<bool, Fail> {
-    let (link, peer) = accepted(rt)?;
-    let mut ends = ends_of(link.lingering(), peer)?;
-    let gets_all = is_written(rt, &mut ends, owed) && is_read(&mut ends.peer, owed, room);
+    let mut ends = new_ends(rt, Manner::Lingering)?;
+    let owed = [7u8; 100_000];
+    let gets_all = is_written(rt, &mut ends, &owed) && is_read(&mut ends.peer, &owed);
     drop(ends);
     Ok(gets_all)
 }
@@ -280,12 +273,7 @@ fn gets_all<R: Net<Listener = TcpListener, Stream = TcpStream> + Wait>(
 /// What was written reaches a peer that goes on sending, though both halves are finished before it reads.
 #[test]
 fn a_peer_that_sends_gets_all(rt: HostRuntime) -> Result<(), Fail> {
-    let owed = vec![in rt.alloc(); 7u8; 100_000]?;
-    let mut room = vec![in rt.alloc(); 0u8; 100_000]?;
-    let gets_all = gets_all(&rt, owed.as_slice(), room.as_mut_slice());
-    drop(room);
-    drop(owed);
-    assert!(rt; gets_all?);
+    assert!(rt; gets_all(&rt)?);
     Ok(())
 }
 
@@ -298,8 +286,7 @@ fn is_waited_for<R: Wait>(rt: &R, ends: &mut Ends) -> bool {
 
 /// The same of a new link whose reads wait for a fiftieth of a second.
 fn waits<R: Net<Listener = TcpListener, Stream = TcpStream> + Wait>(rt: &R) -> Result<bool, Fail> {
-    let (link, peer) = accepted(rt)?;
-    let mut ends = ends_of(link.with_idle(Some(Duration::from_millis(20))), peer)?;
+    let mut ends = new_ends(rt, Manner::Hasty)?;
     let is_waited_for = is_waited_for(rt, &mut ends);
     drop(ends);
     Ok(is_waited_for)

@@ -1,17 +1,16 @@
 //! What who watches a run learns of it as a whole.
 
-use crate::batch::usual_batch;
-use crate::loopback::peers::sent;
+use crate::batch::usual_loading;
 use crate::loopback::serve_written;
-use crate::wanted::a_listener;
+use crate::wanted::{a_called_listener, a_caller, a_listener};
 use gn_fixtures::PING;
-use gn_io::{ReaderSource, Sink, Source, WriterSink};
+use gn_io::{Nowhere, ReaderSource, Sink, Source};
 use gn_links::{Gate, Watch};
-use gn_load::{LoadFault, Loading, ServeFault, load_journalled, load_watched};
+use gn_load::{LoadFault, ServeFault, load_journalled, load_watched};
 use gn_service::{Serving, Stop};
 use gn_table_router::TableRouter;
 use std::alloc::{Allocator, Global};
-use std::net::{Net, Shutdown, SocketAddr, TcpListener, TcpStream};
+use std::net::{Net, SocketAddr, TcpListener, TcpStream};
 use std::sync::Wait;
 use std::sync::atomic::{AtomicU32, Ordering};
 use std::test::Fail;
@@ -108,17 +107,6 @@ fn load_for<A: Allocator + Copy + Send + Sync, R: Threads + Wait + Sync, S: Sour
     load_watched::<A, TableRouter<A>, R, Recorder, S, W>(rt, alloc, 1, watch, source, sink)
 }
 
-/// A caller that has sent a Ping and its end, and its port.
-fn caller<N: Net<Listener = TcpListener, Stream = TcpStream>>(
-    net: &N,
-    at: SocketAddr,
-) -> Result<(TcpStream, u32), Fail> {
-    let client = sent(net, at, PING)?;
-    client.shutdown(Shutdown::Write)?;
-    let port = client.local_addr()?.port();
-    Ok((client, u32::from(port)))
-}
-
 /// A capture of two links that give nothing.
 const TWO_LINKS: &str = "\
 gnutella-capture 1
@@ -128,63 +116,50 @@ join
 join
 ";
 
-/// What a recorder learns of a load of both, whose history is written while it runs, or then.
+/// A load of both, whose history is written while it runs, or then. Nobody wants it.
+fn load_both<R: Threads + Wait + Sync>(
+    rt: &R,
+    alloc: Global,
+    recorder: &Recorder,
+    is_journalled: bool,
+) -> Result<(), LoadFault> {
+    let mut source = ReaderSource::new(TWO_LINKS.as_bytes());
+    let loaded = if is_journalled {
+        let loading = usual_loading(1, recorder);
+        load_journalled(rt, alloc, &loading, &mut source, &mut Nowhere)
+    } else {
+        load_for(rt, alloc, recorder, &mut source, &mut Nowhere)
+    };
+    drop(source);
+    loaded
+}
+
+/// What a recorder learns of such a load.
 fn learned_of_a_load<R: Threads + Wait + Sync>(
     rt: &R,
     alloc: Global,
     is_journalled: bool,
-) -> Result<[u32; 4], Fail> {
+) -> Result<[u32; 4], LoadFault> {
     let recorder = Recorder::new();
-    let mut source = ReaderSource::new(TWO_LINKS.as_bytes());
-    let mut sink = WriterSink::new(Vec::new(alloc));
-    let loading = Loading {
-        workers: 1,
-        watch: &recorder,
-        batch: usual_batch(),
-    };
-    let loaded = if is_journalled {
-        load_journalled(rt, alloc, &loading, &mut source, &mut sink)
-    } else {
-        load_for(rt, alloc, &recorder, &mut source, &mut sink)
-    };
-    drop(source);
-    drop(sink.into_inner());
-    loaded?;
-    Ok(recorder.learned())
+    let loaded = load_both(rt, alloc, &recorder, is_journalled);
+    let learned = recorder.learned();
+    drop(recorder);
+    match loaded {
+        Ok(()) => Ok(learned),
+        Err(fault) => Err(fault),
+    }
 }
 
 #[test]
 fn who_watches_learns_of_a_load(rt: HostRuntime) -> Result<(), Fail> {
-    assert_eq!(rt; learned_of_a_load(&rt, rt.alloc(), false)?, [145, 2, 0, 0]);
-    assert_eq!(rt; learned_of_a_load(&rt, rt.alloc(), true)?, [145, 2, 0, 0]);
-    Ok(())
-}
-
-/// Two callers, and their ports.
-#[derive(Drop)]
-struct Callers {
-    one: TcpStream,
-    other: TcpStream,
-    ports: (u32, u32),
-}
-
-/// Two callers that have sent a Ping and their end, one after the other.
-fn two_callers<N: Net<Listener = TcpListener, Stream = TcpStream>>(
-    net: &N,
-    at: SocketAddr,
-) -> Result<Callers, Fail> {
-    let (one, first) = caller(net, at)?;
-    match caller(net, at) {
-        Ok((other, second)) => Ok(Callers {
-            one,
-            other,
-            ports: (first, second),
-        }),
-        Err(fail) => {
-            drop(one);
-            Err(fail)
-        }
+    for is_journalled in [false, true] {
+        assert_eq!(rt;
+            learned_of_a_load(&rt, rt.alloc(), is_journalled),
+            Ok([145, 2, 0, 0]),
+            "{is_journalled}"
+        );
     }
+    Ok(())
 }
 
 /// A serve of callers that have come, which a recorder watches.
@@ -208,26 +183,34 @@ fn serve_watched<
     served
 }
 
-/// Serves two callers that have come, which a recorder watches: the ports of both.
-fn serve_two<
+/// What a recorder learns of a serve of two callers that have come.
+fn learned_of_a_serve<
     R: Threads
         + Wait
         + Net<Listener = TcpListener, Stream = TcpStream>
         + Clock
         + AllocGlobal
         + Sync,
->(rt: &R, alloc: Global, recorder: &Recorder) -> Result<(u32, u32), Fail> {
-    let listener = a_listener(rt)?;
-    let callers = two_callers(rt, listener.local_addr()?)?;
-    let served = serve_watched(rt, alloc, &listener, 2, &Serving::UNLIMITED, recorder);
-    let ports = callers.ports;
-    drop(callers);
-    drop(listener);
-    served?;
-    Ok(ports)
+>(rt: &R, alloc: Global, listener: &TcpListener) -> Result<[u32; 4], ServeFault> {
+    let recorder = Recorder::new();
+    let served = serve_watched(rt, alloc, listener, 2, &Serving::UNLIMITED, &recorder);
+    let learned = recorder.learned();
+    drop(recorder);
+    match served {
+        Ok(()) => Ok(learned),
+        Err(fault) => Err(fault),
+    }
 }
 
-/// What a recorder learns of a serve of two callers that have come, and the ports of both.
+/// The port of a caller; 0, where it has none.
+fn port_of(caller: &TcpStream) -> u32 {
+    match caller.local_addr() {
+        Ok(at) => u32::from(at.port()),
+        Err(_) => 0,
+    }
+}
+
+/// What a recorder learns of a serve of two callers that have sent a Ping and their end, one after the other, and what it has to.
 fn learned_of_two<
     R: Threads
         + Wait
@@ -235,20 +218,53 @@ fn learned_of_two<
         + Clock
         + AllocGlobal
         + Sync,
->(rt: &R, alloc: Global) -> Result<([u32; 4], (u32, u32)), Fail> {
-    let recorder = Recorder::new();
-    let ports = serve_two(rt, alloc, &recorder)?;
-    Ok((recorder.learned(), ports))
+>(rt: &R, alloc: Global) -> Result<(Result<[u32; 4], ServeFault>, [u32; 4]), Fail> {
+    let called = a_called_listener(rt, PING, true)?;
+    let second = a_caller(rt, &called.listener, PING, true)?;
+    let right = [2334, 100, port_of(&called.caller), port_of(&second)];
+    let learned = learned_of_a_serve(rt, alloc, &called.listener);
+    drop(second);
+    drop(called);
+    Ok((learned, right))
 }
 
 #[test]
 fn who_watches_learns_of_a_serve(rt: HostRuntime) -> Result<(), Fail> {
-    let (learned, (first, second)) = learned_of_two(&rt, rt.alloc())?;
-    assert_eq!(rt; learned, [2334, 100, first, second]);
+    let (learned, right) = learned_of_two(&rt, rt.alloc())?;
+    assert_eq!(rt; learned, Ok(right));
     Ok(())
 }
 
+/// How long a serve goes on that this stops.
+fn stopped_by(stop: &Stop) -> Serving<'_> {
+    Serving {
+        stop: Some(stop),
+        ..Serving::UNLIMITED
+    }
+}
+
 /// How often one is told that a serve goes on, which nobody calls and half a second stops.
+fn ticks_at<
+    R: Threads
+        + Wait
+        + Net<Listener = TcpListener, Stream = TcpStream>
+        + Clock
+        + AllocGlobal
+        + Sync,
+>(rt: &R, alloc: Global, listener: &TcpListener) -> Result<u32, ServeFault> {
+    let stop = Stop::new(Some(Duration::from_millis(500)), false);
+    let recorder = Recorder::new();
+    let served = serve_watched(rt, alloc, listener, 1, &stopped_by(&stop), &recorder);
+    let ticks = recorder.ticks.load(Ordering::SeqCst);
+    drop(recorder);
+    drop(stop);
+    match served {
+        Ok(()) => Ok(ticks),
+        Err(fault) => Err(fault),
+    }
+}
+
+/// The same of a new listener.
 fn ticks_of_a_serve<
     R: Threads
         + Wait
@@ -257,17 +273,8 @@ fn ticks_of_a_serve<
         + AllocGlobal
         + Sync,
 >(rt: &R, alloc: Global) -> Result<u32, Fail> {
-    let stop = Stop::new(Some(Duration::from_millis(500)), false);
-    let serving = Serving {
-        stop: Some(&stop),
-        ..Serving::UNLIMITED
-    };
-    let recorder = Recorder::new();
     let listener = a_listener(rt)?;
-    let served = serve_watched(rt, alloc, &listener, 1, &serving, &recorder);
-    drop(listener);
-    served?;
-    Ok(recorder.ticks.load(Ordering::SeqCst))
+    Ok(ticks_at(rt, alloc, &listener)?)
 }
 
 /// Also while nothing is done: nobody calls this serve.

@@ -4,7 +4,7 @@
 use crate::run::{Run, USUAL};
 
 /// Each run with what is printed for it.
-pub(crate) const ANSWER_RUNS: [Run; 12] = [
+pub(crate) static ANSWER_RUNS: [Run; 12] = [
     Run {
         name: "originated",
         numbers: USUAL,

@@ -1,5 +1,6 @@
 //! Captures: the first fault of each kind, and the most links.
 
+use crate::compare::wrong_at;
 use gn_capture::{CaptureRefusal, Cause, read_capture};
 use std::alloc::{AllocError, Global};
 use std::test::Fail;
@@ -8,7 +9,7 @@ use std::test::Fail;
 type Faults = (&'static str, &'static str, u64, Cause);
 
 /// Each cause of a fault, at the first line where it can stand.
-const FAULTS: [Faults; 21] = [
+static FAULTS: [Faults; 21] = [
     ("", "", 1, Cause::Header),
     ("\n\n", "", 3, Cause::Header),
     ("gnutella-capture 9", "", 1, Cause::Header),
@@ -127,12 +128,19 @@ fn are_found(alloc: Global, texts: &Faults) -> Result<bool, AllocError> {
     Ok(true)
 }
 
-#[test]
-fn the_first_fault_is_named(rt: HostRuntime) -> Result<(), Fail> {
-    for texts in &FAULTS {
-        assert!(rt; are_found(rt.alloc(), texts)?, "{} {}", texts.0, texts.1);
+/// Fails at the first row that isn't as it says.
+fn all_are_found(alloc: Global) -> Result<(), Fail> {
+    for (number, texts) in FAULTS.iter().enumerate() {
+        if !are_found(alloc, texts)? {
+            return Err(wrong_at(number));
+        }
     }
     Ok(())
+}
+
+#[test]
+fn the_first_fault_is_named(rt: HostRuntime) -> Result<(), Fail> {
+    all_are_found(rt.alloc())
 }
 
 /// A capture of as many links as there may be.
@@ -145,24 +153,27 @@ fn full(alloc: Global) -> Result<String, AllocError> {
     Ok(text)
 }
 
-/// The line and the cause of the fault of that capture with this last line.
-fn fault_after(alloc: Global, last: &str) -> Result<Option<(u64, Cause)>, AllocError> {
-    let text = full(alloc)?;
-    let fault = fault(alloc, text.as_str(), last);
-    drop(text);
-    fault
+/// Last lines, and the line and the cause of the fault of that capture with each.
+static LAST: [(&str, Option<(u64, Cause)>); 5] = [
+    ("", None),
+    ("join", Some((261, Cause::Link))),
+    ("open", Some((261, Cause::Link))),
+    ("join 1", Some((261, Cause::Fields))),
+    ("data 257 -", Some((261, Cause::Link))),
+];
+
+/// Fails at the first of these lines that hasn't its fault.
+fn are_last(alloc: Global, full: &str) -> Result<(), Fail> {
+    for (number, (line, wanted)) in LAST.iter().enumerate() {
+        if fault(alloc, full, *line)? != *wanted {
+            return Err(wrong_at(number));
+        }
+    }
+    Ok(())
 }
 
 #[test]
 fn the_most_links(rt: HostRuntime) -> Result<(), Fail> {
-    assert_eq!(rt; fault_after(rt.alloc(), "")?, None);
-    for (line, cause) in [
-        ("join", Cause::Link),
-        ("open", Cause::Link),
-        ("join 1", Cause::Fields),
-        ("data 257 -", Cause::Link),
-    ] {
-        assert_eq!(rt; fault_after(rt.alloc(), line)?, Some((261, cause)));
-    }
-    Ok(())
+    let text = full(rt.alloc())?;
+    are_last(rt.alloc(), text.as_str())
 }

@@ -1,9 +1,8 @@
 //! Bytes of links that come in pieces: however they are cut, the same is printed.
 
 use crate::encoding::encoded;
-use crate::replays::replay_with_tables;
+use crate::replays::exit_of;
 use crate::run::capture_text;
-use gn_io::{ReaderSource, WriterSink};
 use std::alloc::{AllocError, Global};
 use std::test::Fail;
 
@@ -11,23 +10,22 @@ use std::test::Fail;
 struct Cut {
     name: &'static str,
     numbers: &'static str,
-    before: &'static str,
-    /// The link of the piece, and the piece.
-    link: &'static str,
-    piece: &'static str,
-    after: &'static str,
+    /// Its lines. The piece stands between bars.
+    capture: &'static str,
+    /// What stands between two parts of the piece.
+    again: &'static str,
     printed: &'static str,
 }
 
 /// A Query Hit, and a greeting with the Ping behind it.
-const CUTS: [Cut; 2] = [
+static CUTS: [Cut; 2] = [
     Cut {
         name: "query_hit_push",
         numbers: "4 8 4 8 8 100",
-        before: "join; join; data 1 <b1>800500070000000000616263001c; route 0",
-        link: "2",
-        piece: "<TWO b1 5e 04 00>",
-        after: "route 1; data 1 <PUSH c1 5e 05 00>; route 2",
+        capture: "join; join; data 1 <b1>800500070000000000616263001c; route 0; \
+            data 2 |<TWO b1 5e 04 00>|; \
+            route 1; data 1 <PUSH c1 5e 05 00>; route 2",
+        again: "\ndata 2 ",
         printed: "0 connect = connected 1; \
             0 connect = connected 2; \
             0 admit 1 <b1>800500070000000000616263001c = admitted 0; \
@@ -40,107 +38,97 @@ const CUTS: [Cut; 2] = [
     Cut {
         name: "greetings",
         numbers: "1 8 4 8 8 100",
-        before: "open",
-        link: "1",
-        piece: "474e5554454c4c4120434f4e4e4543542f302e340a0a<PING a1 07 00>",
-        after: "route 0",
+        capture: "open; \
+            data 1 |474e5554454c4c4120434f4e4e4543542f302e340a0a<PING a1 07 00>|; \
+            route 0",
+        again: "\ndata 1 ",
         printed: "0 connect = connected 1; \
             0 admit 1 <PING a1 07 00> = admitted 0; \
             0 route 0 = routed local 1+<OWN a1 01>",
     },
 ];
 
-/// The `data` lines of a piece: cut before one byte, or with none named before each.
+/// A capture's text: what stands before the piece, the piece, and what stands after it.
+type Parts<'a> = (&'a str, &'a str, &'a str);
+
+/// The parts of a text with two bars.
+fn parts_of(text: &str) -> Parts<'_> {
+    let (before, rest) = text.split_once('|').unwrap_or((text, ""));
+    let (piece, after) = rest.split_once('|').unwrap_or((rest, ""));
+    (before, piece, after)
+}
+
+/// The piece, cut before one byte, or with none named before each.
 fn push_pieces(
     text: &mut Vec<u8>,
-    link: &str,
+    again: &str,
     digits: &str,
     at: Option<usize>,
 ) -> Result<(), AllocError> {
     for (i, byte) in digits.as_bytes().chunks(2).enumerate() {
-        let is_cut = match at {
-            Some(at) => i == at,
-            None => true,
-        };
-        if i == 0 || is_cut {
-            text.extend_from_slice(b"\ndata ")?;
-            text.extend_from_slice(link.as_bytes())?;
-            text.push(b' ')?;
+        if i > 0 && i == at.unwrap_or(i) {
+            text.extend_from_slice(again.as_bytes())?;
         }
         text.extend_from_slice(byte)?;
     }
-    text.extend_from_slice(b"\n")
+    Ok(())
 }
 
 /// The capture, its piece cut there.
 fn cut_text(
     alloc: Global,
-    cut: &Cut,
-    digits: &str,
+    again: &str,
+    parts: Parts<'_>,
     at: Option<usize>,
 ) -> Result<Vec<u8>, AllocError> {
-    let before = capture_text(alloc, cut.numbers, cut.before)?;
+    let (before, piece, after) = parts;
     let mut text = Vec::from_slice(alloc, before.as_bytes())?;
-    push_pieces(&mut text, cut.link, digits, at)?;
-    text.extend_from_slice(encoded(alloc, cut.after)?.as_bytes())?;
+    push_pieces(&mut text, again, piece, at)?;
+    text.extend_from_slice(after.as_bytes())?;
     Ok(text)
-}
-
-/// What a replay prints of the capture, its piece cut there.
-fn printed(alloc: Global, cut: &Cut, digits: &str, at: Option<usize>) -> Result<Vec<u8>, Fail> {
-    let text = cut_text(alloc, cut, digits, at)?;
-    let mut sink = WriterSink::new(Vec::new(alloc));
-    let mut source = ReaderSource::new(text.as_slice());
-    let replayed = replay_with_tables(alloc, &mut source, &mut sink);
-    drop(source);
-    drop(text);
-    let found = sink.into_inner();
-    if replayed.is_ok() {
-        Ok(found)
-    } else {
-        drop(found);
-        Err(Fail::from(cut.name))
-    }
 }
 
 /// Whether a replay of the capture, its piece cut there, prints this.
 fn prints(
     alloc: Global,
-    cut: &Cut,
-    digits: &str,
+    again: &str,
+    parts: Parts<'_>,
     at: Option<usize>,
     wanted: &[u8],
-) -> Result<bool, Fail> {
-    let found = printed(alloc, cut, digits, at)?;
-    let is_wanted = found.as_slice() == wanted;
-    drop(found);
-    Ok(is_wanted)
+) -> Result<bool, AllocError> {
+    let text = cut_text(alloc, again, parts, at)?;
+    Ok(exit_of(alloc, text.as_slice(), wanted).is_some())
 }
 
-/// Whether a replay prints this wherever the piece of these digits is cut.
-fn always_prints(alloc: Global, cut: &Cut, digits: &str, wanted: &[u8]) -> Result<bool, Fail> {
-    for at in 0..digits.len() / 2 {
-        if !prints(alloc, cut, digits, Some(at), wanted)? {
-            return Ok(false);
-        }
+/// Whether a replay prints this wherever the piece is cut.
+fn always_prints(
+    alloc: Global,
+    again: &str,
+    parts: Parts<'_>,
+    wanted: &[u8],
+) -> Result<bool, AllocError> {
+    let mut all_print = prints(alloc, again, parts, None, wanted)?;
+    for at in 0..parts.1.len() / 2 {
+        all_print = prints(alloc, again, parts, Some(at), wanted)? && all_print;
     }
-    prints(alloc, cut, digits, None, wanted)
+    Ok(all_print)
 }
 
-/// Whether that is the same wherever the piece is cut.
-fn is_the_same(alloc: Global, cut: &Cut) -> Result<bool, Fail> {
-    let piece = encoded(alloc, cut.piece)?;
+/// Fails where that isn't the same wherever the piece is cut.
+fn is_the_same(alloc: Global, cut: &Cut) -> Result<(), Fail> {
+    let capture = capture_text(alloc, cut.numbers, cut.capture)?;
     let wanted = encoded(alloc, cut.printed)?;
-    let is_the_same = always_prints(alloc, cut, piece.as_str().trim_end(), wanted.as_bytes());
-    drop(piece);
-    drop(wanted);
-    is_the_same
+    if always_prints(alloc, cut.again, parts_of(&capture), wanted.as_bytes())? {
+        Ok(())
+    } else {
+        Err(Fail::from(cut.name))
+    }
 }
 
 #[test]
 fn at_each_byte(rt: HostRuntime) -> Result<(), Fail> {
     for cut in &CUTS {
-        assert!(rt; is_the_same(rt.alloc(), cut)?, "{}", cut.name);
+        is_the_same(rt.alloc(), cut)?;
     }
     Ok(())
 }

@@ -6,83 +6,73 @@
 
 use std::alloc::{AllocError, Global};
 
-/// Length and payload of a Pong.
-const PONG: &str = "0e00000001007f0000020100000002000000";
+/// What each kind of descriptor is written as, and first an ID alone. `P` stands for 16 times the first field after the
+/// kind, `Q` for 16 times the second, `q`, `r` and `s` for the second, the third and the fourth, and each digit for
+/// itself.
+static FORMS: [(&str, &str); 8] = [
+    ("", "P"),
+    ("PING", "P00qr00000000"),
+    ("PONG", "P01qr0e00000001007f0000020100000002000000"),
+    ("OWN", "P01q000e000000ca187f0000010500000028000000"),
+    ("QUERY", "P80qr0400000000007800"),
+    ("HIT", "P81rs1b00000000ca187f0000021c000000Q"),
+    (
+        "TWO",
+        "P81rs3600000002ca187f0000021c000000\
+        010000000a000000610000\
+        020000001400000062007a00\
+        4c494d45Q",
+    ),
+    ("PUSH", "P40rs1a000000Q010000007f000001ca18"),
+];
 
-/// Length and payload of the router's own Pong.
-const OWN_PONG: &str = "0e000000ca187f0000010500000028000000";
+/// What a kind is written as. No kind is that of an ID alone.
+fn form_of(kind: &str) -> &'static str {
+    for (name, form) in &FORMS {
+        if *name == kind {
+            return *form;
+        }
+    }
+    ""
+}
 
-/// Length and payload of a Query Hit with no result, but for its servent.
-const NO_RESULT: &str = "1b00000000ca187f0000021c000000";
-
-/// Length and payload of a Query Hit with two results and a trailer, but for its servent.
-const TWO_RESULTS: &str = "3600000002ca187f0000021c000000\
-    010000000a000000610000\
-    020000001400000062007a00\
-    4c494d45";
-
-/// The hex of an ID whose bytes are all the same.
-fn push_id(text: &mut String, byte: &str) -> Result<(), AllocError> {
-    for _ in 0..16 {
-        text.push_str(byte)?;
+/// Appends the hex of a letter of a form, of these fields of two digits each, a space apart.
+fn push_part(text: &mut String, fields: &str, letter: char) -> Result<(), AllocError> {
+    let (times, start) = match letter {
+        'P' => (16, 0),
+        'Q' => (16, 3),
+        'q' => (1, 3),
+        'r' => (1, 6),
+        's' => (1, 9),
+        digit => return text.push(digit),
+    };
+    let field = fields.get(start..start + 2).unwrap_or("");
+    for _ in 0..times {
+        text.push_str(field)?;
     }
     Ok(())
 }
 
-/// The hex around the TTL and the Hops of a kind: its number; its length and payload up to a servent, where it has one; and
-/// what stands after that.
-fn parts_of(kind: &str) -> [&'static str; 3] {
-    match kind {
-        "PING" => ["00", "00000000", ""],
-        "PONG" => ["01", PONG, ""],
-        "OWN" => ["01", OWN_PONG, ""],
-        "QUERY" => ["80", "0400000000007800", ""],
-        "HIT" => ["81", NO_RESULT, ""],
-        "TWO" => ["81", TWO_RESULTS, ""],
-        "PUSH" => ["40", "1a000000", "010000007f000001ca18"],
-        _ => ["", "", ""],
-    }
-}
-
-/// The hex of what stands after a descriptor's ID. The TTL and the Hops come last, of the router's own Pong the TTL alone;
-/// before them comes a servent, where the payload has one.
-fn push_after_id(text: &mut String, kind: &str, fields: &[&str]) -> Result<(), AllocError> {
-    let (servent, ttl, hops) = match fields {
-        [ttl] => ("", *ttl, "00"),
-        [ttl, hops] => ("", *ttl, *hops),
-        [servent, ttl, hops] => (*servent, *ttl, *hops),
-        _ => ("", "", ""),
-    };
-    let [number, payload, end] = parts_of(kind);
-    text.push_str(number)?;
-    text.push_str(ttl)?;
-    text.push_str(hops)?;
-    text.push_str(payload)?;
-    push_id(text, servent)?;
-    text.push_str(end)
-}
-
 /// The hex of what short words stand for: an ID, or a descriptor by its kind, its ID and more fields.
-fn push_encoded(text: &mut String, words: &[&str]) -> Result<(), AllocError> {
-    match words {
-        [] => Ok(()),
-        [id] => push_id(text, id),
-        [kind, id, fields @ ..] => {
-            push_id(text, id)?;
-            push_after_id(text, kind, fields)
-        }
+fn push_encoded(text: &mut String, words: &str) -> Result<(), AllocError> {
+    let (kind, fields) = words.split_once(' ').unwrap_or(("", words));
+    for letter in form_of(kind).chars() {
+        push_part(text, fields, letter)?;
     }
+    Ok(())
 }
 
 /// Appends a line of a run, with what stands in angle brackets encoded.
-fn push_line(alloc: Global, text: &mut String, line: &str) -> Result<(), AllocError> {
-    for (i, piece) in line.split(['<', '>']).enumerate() {
-        if i % 2 == 0 {
-            text.push_str(piece)?;
+fn push_line(text: &mut String, line: &str) -> Result<(), AllocError> {
+    let mut is_short = false;
+    for piece in line.split(['<', '>']) {
+        let pushed = if is_short {
+            push_encoded(text, piece)
         } else {
-            let words: Vec<&str> = piece.split(' ').collect(alloc)?;
-            push_encoded(text, &words)?;
-        }
+            text.push_str(piece)
+        };
+        pushed?;
+        is_short = !is_short;
     }
     text.push('\n')
 }
@@ -90,10 +80,8 @@ fn push_line(alloc: Global, text: &mut String, line: &str) -> Result<(), AllocEr
 /// The text that a short one stands for.
 pub(crate) fn encoded(alloc: Global, short: &str) -> Result<String, AllocError> {
     let mut text = String::new(alloc);
-    if !short.is_empty() {
-        for line in short.split("; ") {
-            push_line(alloc, &mut text, line)?;
-        }
+    for line in short.split_terminator("; ") {
+        push_line(&mut text, line)?;
     }
     Ok(text)
 }

@@ -1,144 +1,144 @@
 //! Runs of requests as lists of events: each router answers each event as the capture's text says.
 
+use crate::asks::{Ask, Packet, event};
 use crate::encoding::encoded;
-use crate::request_runs::request_run;
+use crate::request_runs::REQUEST_RUNS;
 use crate::run::{Run, capture_of};
-use gn_frames::Reassembler;
 use gn_rules::{Config, Event, FreshRouter, Receipt, Refusal, run_events};
 use gn_search::PlainRouter;
 use gn_table_router::TableRouter;
 use gn_text::{push_refusal, push_step_of};
-use gn_wire::Descriptor;
+use gn_wire::Kind;
 use std::alloc::{AllocError, Allocator, Global};
 use std::test::Fail;
 
+/// A Query of ID b1 for "x", at its limits.
+const QUERY: Packet = Packet {
+    kind: Kind::Query,
+    byte: 0xb1,
+    ttl: 9,
+    hops: 0xff,
+    payload: b"\0\0x\0",
+};
+
+/// A Pong of ID a1 that has made a hop.
+const PONG: Packet = Packet {
+    kind: Kind::Pong,
+    byte: 0xa1,
+    ttl: 3,
+    hops: 1,
+    payload: b"\x01\0\x7f\0\0\x02\x01\0\0\0\x02\0\0\0",
+};
+
+/// The same of ID a2.
+const SECOND_PONG: Packet = Packet { byte: 0xa2, ..PONG };
+
 /// The events of each run that isn't statistics alone, in the order of the runs.
-const EVENTS: [(&'static str, &'static str); 7] = [
+static EVENTS: [(&str, &[Ask]); 7] = [
     (
         "first_ping",
-        "connect; connect; admit 1 <PING a1 07 00>; route 0",
+        &[
+            Ask::Connect,
+            Ask::Connect,
+            Ask::Ping(1, 0xa1, 7, 0),
+            Ask::Route(0),
+        ],
     ),
     (
         "expired_ping",
-        "connect; connect; connect; admit 1 <PING a1 01 00>; route 0",
+        &[
+            Ask::Connect,
+            Ask::Connect,
+            Ask::Connect,
+            Ask::Ping(1, 0xa1, 1, 0),
+            Ask::Route(0),
+        ],
     ),
     (
         "ttl_and_hops_limits",
-        "connect; connect; \
-        admit 1 <PING a1 00 00>; admit 1 <QUERY b1 09 ff>; admit 1 <PING a2 09 ff>; \
-        route 0; route 1; route 2; \
-        admit 1 <PING a1 07 00>; route 3",
+        &[
+            Ask::Connect,
+            Ask::Connect,
+            Ask::Ping(1, 0xa1, 0, 0),
+            Ask::Admit(1, QUERY),
+            Ask::Ping(1, 0xa2, 9, 0xff),
+            Ask::Route(0),
+            Ask::Route(1),
+            Ask::Route(2),
+            Ask::Ping(1, 0xa1, 7, 0),
+            Ask::Route(3),
+        ],
     ),
     (
         "remembered_and_forgotten",
-        "connect; \
-        admit 1 <PING a1 07 00>; route 0; \
-        admit 1 <PING a2 07 00>; route 1; \
-        admit 1 <PING a1 07 00>; route 2; \
-        admit 1 <PING a3 07 00>; route 3; \
-        admit 1 <PING a1 07 00>; route 4",
+        &[
+            Ask::Connect,
+            Ask::Ping(1, 0xa1, 7, 0),
+            Ask::Route(0),
+            Ask::Ping(1, 0xa2, 7, 0),
+            Ask::Route(1),
+            Ask::Ping(1, 0xa1, 7, 0),
+            Ask::Route(2),
+            Ask::Ping(1, 0xa3, 7, 0),
+            Ask::Route(3),
+            Ask::Ping(1, 0xa1, 7, 0),
+            Ask::Route(4),
+        ],
     ),
     (
         "one_remembered",
-        "connect; connect; \
-        admit 1 <PING a1 07 00>; route 0; \
-        admit 1 <PING a2 07 00>; route 1; \
-        admit 2 <PONG a1 03 01>; route 2; \
-        admit 2 <PONG a2 03 01>; route 3",
+        &[
+            Ask::Connect,
+            Ask::Connect,
+            Ask::Ping(1, 0xa1, 7, 0),
+            Ask::Route(0),
+            Ask::Ping(1, 0xa2, 7, 0),
+            Ask::Route(1),
+            Ask::Admit(2, PONG),
+            Ask::Route(2),
+            Ask::Admit(2, SECOND_PONG),
+            Ask::Route(3),
+        ],
     ),
     (
         "pongs_go_back",
-        "connect; connect; \
-        admit 1 <PING a1 07 00>; route 0; \
-        admit 2 <PONG a1 03 01>; route 1; \
-        admit 2 <PONG a1 03 01>; route 2; \
-        take 1; take 1",
+        &[
+            Ask::Connect,
+            Ask::Connect,
+            Ask::Ping(1, 0xa1, 7, 0),
+            Ask::Route(0),
+            Ask::Admit(2, PONG),
+            Ask::Route(1),
+            Ask::Admit(2, PONG),
+            Ask::Route(2),
+            Ask::Take(1),
+            Ask::Take(1),
+        ],
     ),
     (
         "close_and_rejoin",
-        "connect; connect; \
-        admit 1 <PING a1 07 00>; route 0; \
-        close 1; connect; \
-        admit 2 <PONG a1 03 01>; route 1; \
-        take 3; close 1",
+        &[
+            Ask::Connect,
+            Ask::Connect,
+            Ask::Ping(1, 0xa1, 7, 0),
+            Ask::Route(0),
+            Ask::Close(1),
+            Ask::Connect,
+            Ask::Admit(2, PONG),
+            Ask::Route(1),
+            Ask::Take(3),
+            Ask::Close(1),
+        ],
     ),
 ];
 
-/// The descriptor that hex digits encode.
-fn descriptor<A: Allocator + Copy>(alloc: A, digits: &str) -> Result<Descriptor<A>, Fail> {
-    let Ok(bytes) = hex::decode(alloc, digits) else {
-        return Err(Fail::from("hex"));
-    };
-    let Ok(mut frames) = Reassembler::new(alloc) else {
-        drop(bytes);
-        return Err(Fail::from("a reassembler"));
-    };
-    let answer = frames.feed(&bytes);
-    drop(frames);
-    drop(bytes);
-    let Ok(fed) = answer else {
-        return Err(Fail::from("a feed"));
-    };
-    let mut descriptors = fed.descriptors;
-    let last = descriptors.pop();
-    drop(descriptors);
-    Ok(last.ok_or("a descriptor")?)
-}
-
-/// The number that a word is.
-fn number(word: Option<&str>) -> Result<u32, Fail> {
-    match word.unwrap_or("").parse::<u32>() {
-        Ok(number) => Ok(number),
-        Err(_) => Err(Fail::from("a number")),
-    }
-}
-
-/// The event that a line says.
-fn event<A: Allocator + Copy>(alloc: A, line: &str) -> Result<Event<A>, Fail> {
-    let mut words = line.split(' ');
-    let word = words.next().unwrap_or("");
-    if word == "connect" {
-        return Ok(Event::Connect);
-    }
-    let number = number(words.next())?;
-    match word {
-        "close" => Ok(Event::Close(number)),
-        "take" => Ok(Event::Take(number)),
-        "route" => Ok(Event::Route(number)),
-        "admit" => Ok(Event::Admit(number, descriptor(alloc, words.next().unwrap_or(""))?)),
-        _ => Err(Fail::from("an event")),
-    }
-}
-
-/// Appends the events that these lines say.
-fn push_events<A: Allocator + Copy>(
-    alloc: A,
-    events: &mut Vec<Event<A>, A>,
-    text: &str,
-) -> Result<(), Fail> {
-    for line in text.lines() {
-        events.push(event(alloc, line)?)?;
-    }
-    Ok(())
-}
-
-/// The events that these lines of a capture ask for.
-fn events<A: Allocator + Copy>(
-    texts: Global,
-    alloc: A,
-    lines: &str,
-) -> Result<Vec<Event<A>, A>, Fail> {
-    let text = encoded(texts, lines)?;
+/// The events that these are.
+fn events<A: Allocator + Copy>(alloc: A, asks: &[Ask]) -> Result<Vec<Event<A>, A>, Fail> {
     let mut events = Vec::new(alloc);
-    let pushed = push_events(alloc, &mut events, text.as_str());
-    drop(text);
-    match pushed {
-        Ok(()) => Ok(events),
-        Err(fail) => {
-            drop(events);
-            Err(fail)
-        }
+    for ask in asks {
+        events.push(event(alloc, ask)?)?;
     }
+    Ok(events)
 }
 
 /// What is printed of events and their answers.
@@ -172,33 +172,51 @@ fn answered<A: Allocator + Copy, C: FreshRouter<A> + Drop>(
     text
 }
 
-/// Whether a router answers the events as the run's text says.
+/// What is printed of these events and of a router's answers to them.
+fn answered_to<A: Allocator + Copy, C: FreshRouter<A> + Drop>(
+    alloc: A,
+    config: &Config,
+    asks: &[Ask],
+) -> Result<Vec<u8, A>, Fail> {
+    let events = events(alloc, asks)?;
+    let found = answered::<A, C>(alloc, config, events.as_slice());
+    drop(events);
+    Ok(found?)
+}
+
+/// The configuration of a run.
+fn config_of(texts: Global, run: &Run) -> Result<Config, Fail> {
+    let capture = capture_of(texts, texts, run)?;
+    Ok(capture.config)
+}
+
+/// Fails with its name where a router doesn't answer the events as the run's text says.
 fn answers_as<A: Allocator + Copy, C: FreshRouter<A> + Drop>(
     texts: Global,
     alloc: A,
     run: &Run,
-    lines: &str,
-) -> Result<bool, Fail> {
-    let capture = capture_of(texts, texts, run)?;
-    let config = capture.config;
-    drop(capture);
-    let events = events(texts, alloc, lines)?;
-    let found = answered::<A, C>(alloc, &config, events.as_slice());
-    drop(events);
-    let found = found?;
+    asks: &[Ask],
+) -> Result<(), Fail> {
+    let config = config_of(texts, run)?;
+    let found = answered_to::<A, C>(alloc, &config, asks)?;
     let wanted = encoded(texts, run.printed)?;
-    Ok(found.as_slice() == wanted.as_bytes())
+    if found.as_slice() == wanted.as_bytes() {
+        Ok(())
+    } else {
+        Err(Fail::from(run.name))
+    }
 }
 
-/// Whether a router answers the events of all runs so. An `Err` names the first that it doesn't.
+/// Fails with the name of the first run whose events a router doesn't answer so.
 fn answers_all<A: Allocator + Copy, C: FreshRouter<A> + Drop>(
     texts: Global,
     alloc: A,
 ) -> Result<(), Fail> {
-    for (name, lines) in &EVENTS {
-        if !answers_as::<A, C>(texts, alloc, &request_run(*name)?, *lines)? {
+    for (run, (name, asks)) in REQUEST_RUNS[2..].iter().zip(&EVENTS) {
+        if run.name != *name {
             return Err(Fail::from(*name));
         }
+        answers_as::<A, C>(texts, alloc, run, *asks)?;
     }
     Ok(())
 }

@@ -2,8 +2,8 @@
 
 ghost use Rattle.std.specs.Prelude.{◌<◌};
 
+use crate::compare::wrong_at;
 use gn_frames::Reassembler;
-use gn_wire::Descriptor;
 use std::alloc::{AllocError, Global};
 use std::test::Fail;
 
@@ -17,20 +17,13 @@ fn hundred_pings(alloc: Global) -> Result<Vec<u8>, AllocError> {
     Ok(bytes)
 }
 
-/// Appends the encodings of the descriptors.
-fn push_all(bytes: &mut Vec<u8>, descriptors: &[Descriptor]) -> Result<(), AllocError> {
-    for descriptor in descriptors {
-        descriptor.write_to(bytes)?;
-    }
-    Ok(())
-}
-
 /// Appends the encodings of what a reassembler gives for a piece.
 fn push_fed(given: &mut Vec<u8>, frames: &mut Reassembler, piece: &[u8]) -> Result<(), Fail> {
     let fed = frames.feed(piece)?;
-    let pushed = push_all(given, fed.descriptors.as_slice());
-    drop(fed);
-    Ok(pushed?)
+    for descriptor in fed.descriptors.as_slice() {
+        descriptor.write_to(given)?;
+    }
+    Ok(())
 }
 
 /// Appends the encodings of what a reassembler gives for these bytes, so many at a time.
@@ -48,42 +41,37 @@ fn push_all_fed(
     Ok(())
 }
 
-/// The encodings of what a reassembler gives for these bytes, 4,096 at a time, or one by one, and how many bytes wait then.
-fn fed(alloc: Global, bytes: &[u8], is_cut: bool) -> Result<(Vec<u8>, usize), Fail> {
+/// Whether a reassembler gives these bytes back, so many at a time, and none waits then.
+fn are_given(alloc: Global, bytes: &[u8], size: usize) -> Result<bool, Fail>
+    requires { 0 < size }
+{
     let mut frames = Reassembler::new(alloc)?;
     let mut given = Vec::new(alloc);
-    let size = if is_cut { 1 } else { 4096 };
     let pushed = push_all_fed(&mut given, &mut frames, bytes, size);
+    let are_given = given.as_slice() == bytes;
     let pending = frames.pending();
-    drop(frames);
     match pushed {
-        Ok(()) => Ok((given, pending)),
-        Err(fail) => {
-            drop(given);
-            Err(fail)
-        }
+        Ok(()) => Ok(are_given && pending == 0),
+        Err(fail) => Err(fail),
     }
 }
 
-/// Whether a reassembler gives these bytes back, and none waits then.
-fn are_given(alloc: Global, bytes: &[u8], is_cut: bool) -> Result<bool, Fail> {
-    let (given, pending) = fed(alloc, bytes, is_cut)?;
-    let are_given = given.as_slice() == bytes && pending == 0;
-    drop(given);
-    Ok(are_given)
-}
-
-/// Whether that holds of a hundred Pings.
-fn pings_are_given(alloc: Global, is_cut: bool) -> Result<bool, Fail> {
+/// Fails where that doesn't hold of a hundred Pings.
+fn are_pings_given(alloc: Global, size: usize) -> Result<(), Fail>
+    requires { 0 < size }
+{
     let bytes = hundred_pings(alloc)?;
-    let are_given = are_given(alloc, &bytes, is_cut);
+    let are_given = are_given(alloc, &bytes, size);
     drop(bytes);
-    are_given
+    if are_given? {
+        Ok(())
+    } else {
+        Err(wrong_at(size))
+    }
 }
 
 #[test]
 fn a_hundred_pings(rt: HostRuntime) -> Result<(), Fail> {
-    assert!(rt; pings_are_given(rt.alloc(), false)?);
-    assert!(rt; pings_are_given(rt.alloc(), true)?);
-    Ok(())
+    are_pings_given(rt.alloc(), 4096)?;
+    are_pings_given(rt.alloc(), 1)
 }

@@ -1,47 +1,28 @@
 //! One short history, judged under several configurations and from several steps on.
 
-use crate::calls::{admits, is_made};
-use gn_fixtures::OWN;
-use gn_rules::{Config, Event, FreshRouter, Historian, Legality, Own, RouterCore, Step};
+use crate::asks::{Ask, are_met};
+use crate::compare::wrong_at;
+use gn_fixtures::{OWN, usual};
+use gn_rules::{Config, FreshRouter, Historian, Legality, Own, Step};
 use gn_search::PlainRouter;
 use gn_witness::legal;
-use std::alloc::{Allocator, Global};
+use std::alloc::Allocator;
 use std::test::Fail;
 
-/// Whether connection 1's Ping is routed to connection 2, and taken there.
-fn are_made<A: Allocator + Copy, C: RouterCore<A>>(core: &mut C) -> Result<bool, Fail> {
-    let are_connected = is_made(core, Event::Connect) && is_made(core, Event::Connect);
-    let is_admitted = admits(core, 1, 0xa1)?;
-    let is_routed = is_made(core, Event::Route(0));
-    Ok(are_connected && is_admitted && is_routed && is_made(core, Event::Take(2)))
-}
-
 /// Connection 1's Ping is routed to connection 2, and taken there.
-fn history<A: Allocator + Copy>(alloc: A) -> Result<Vec<Step<A>, A>, Fail> {
-    let Ok(config) = Config::new(4, 8, 4, 8, 8, 100, 0, 0, OWN) else {
-        return Err(Fail::from("a configuration"));
-    };
-    let mut core = PlainRouter::<A>::make(alloc, &config)?;
-    let are_made = are_made(&mut core);
-    let history = core.into_history();
-    match are_made {
-        Ok(true) => Ok(history),
-        Ok(false) => {
-            drop(history);
-            Err(Fail::from("an answer"))
-        }
-        Err(fail) => {
-            drop(history);
-            Err(fail)
-        }
-    }
-}
+static ASKS: [Ask; 5] = [
+    Ask::Connect,
+    Ask::Connect,
+    Ask::Ping(1, 0xa1, 7, 0),
+    Ask::Route(0),
+    Ask::Take(2),
+];
 
 /// A configuration by its neighbours, its steps and the files of the own servent, the first step that is judged, and how.
 type Row = (u32, u32, u32, usize, Legality);
 
 /// Each configuration with its verdict.
-const ROWS: [Row; 7] = [
+static ROWS: [Row; 7] = [
     (4, 100, 5, 0, Legality::Legal),
     (4, 5, 5, 0, Legality::Legal),
     // the history is full after 3 steps
@@ -57,7 +38,7 @@ const ROWS: [Row; 7] = [
 ];
 
 /// How the steps from this one on are judged under a configuration.
-fn judged(steps: &[Step], row: &Row) -> Option<Legality> {
+fn judged<A: Allocator>(steps: &[Step<A>], row: &Row) -> Option<Legality> {
     let (neighbours, most, files, first, _) = *row;
     let own = Own { files, ..OWN };
     let steps = steps.get(first..)?;
@@ -68,7 +49,7 @@ fn judged(steps: &[Step], row: &Row) -> Option<Legality> {
 }
 
 /// The first row by which steps aren't judged as it says.
-fn first_wrong(steps: &[Step]) -> Option<usize> {
+fn first_wrong<A: Allocator>(steps: &[Step<A>]) -> Option<usize> {
     for (number, row) in ROWS.iter().enumerate() {
         if judged(steps, row) != Some(row.4) {
             return Some(number);
@@ -77,16 +58,23 @@ fn first_wrong(steps: &[Step]) -> Option<usize> {
     None
 }
 
-/// The same of that history.
-fn first_wrong_of_history(alloc: Global) -> Result<Option<usize>, Fail> {
-    let steps = history(alloc)?;
-    let wrong = first_wrong(steps.as_slice());
-    drop(steps);
-    Ok(wrong)
+/// Fails at the first row that isn't as it says of that history.
+fn is_history_judged<A: Allocator + Copy>(alloc: A) -> Result<(), Fail> {
+    let mut core = PlainRouter::<A>::make(alloc, &usual(100)?)?;
+    let are_met = are_met(alloc, &mut core, &ASKS);
+    let history = core.into_history();
+    let wrong = first_wrong(history.as_slice());
+    drop(history);
+    if !are_met? {
+        return Err(Fail::from("an answer"));
+    }
+    match wrong {
+        Some(number) => Err(wrong_at(number)),
+        None => Ok(()),
+    }
 }
 
 #[test]
 fn the_first_wrong_step_is_found(rt: HostRuntime) -> Result<(), Fail> {
-    assert_eq!(rt; first_wrong_of_history(rt.alloc())?, None);
-    Ok(())
+    is_history_judged(rt.alloc())
 }

@@ -5,6 +5,8 @@
 #[cfg(test)]
 mod answer_runs;
 #[cfg(test)]
+mod asks;
+#[cfg(test)]
 mod calls;
 #[cfg(test)]
 mod captures;

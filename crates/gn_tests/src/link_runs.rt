@@ -3,7 +3,7 @@
 use crate::run::{Run, USUAL};
 
 /// Each run with what is printed for it.
-pub(crate) const LINK_RUNS: [Run; 7] = [
+pub(crate) static LINK_RUNS: [Run; 7] = [
     Run {
         name: "query_hit_push",
         numbers: USUAL,

@@ -1,9 +1,6 @@
 //! The links of the worked runs, run by many threads.
 
-use crate::answer_runs::ANSWER_RUNS;
-use crate::link_runs::LINK_RUNS;
-use crate::request_runs::REQUEST_RUNS;
-use crate::run::{Run, capture_of};
+use crate::run::{Run, all_runs, capture_of};
 use gn_capture::Line;
 use gn_links::{Link, MemoryLink, NoGate};
 use gn_rules::Config;
@@ -68,13 +65,11 @@ where
         return false;
     }
     let ran = run::<TableRouter<A>, K, NoGate, A, R>(rt, alloc, config, links, workers, &NoGate);
-    let is_run = ran.is_ok();
-    drop(ran);
-    is_run
+    ran.is_ok()
 }
 
 /// Few and many workers, and whether the bytes come one by one.
-const WAYS: [(u32, bool); 6] = [
+static WAYS: [(u32, bool); 6] = [
     (1, false),
     (1, true),
     (2, false),
@@ -89,30 +84,33 @@ fn are_run_in_each_way<R: Threads + Wait + Sync>(
     alloc: Global,
     config: &Config,
     lines: &[(u64, Line)],
-) -> Result<bool, Fail> {
+) -> Result<bool, AllocError> {
+    let mut all_run = true;
     for (workers, is_cut) in &WAYS {
         let links = links_of(alloc, lines, *is_cut)?;
-        if !are_run(rt, alloc, config, links, *workers) {
-            return Ok(false);
-        }
+        all_run = are_run(rt, alloc, config, links, *workers) && all_run;
     }
-    Ok(true)
+    Ok(all_run)
 }
 
-/// Whether the links of a run are run in each way.
-fn is_run<R: Threads + Wait + Sync>(rt: &R, alloc: Global, row: &Run) -> Result<bool, Fail> {
+/// Fails with its name where the links of a run aren't run in each way.
+fn is_run<R: Threads + Wait + Sync>(rt: &R, alloc: Global, row: &Run) -> Result<(), Fail> {
     let capture = capture_of(alloc, alloc, row)?;
-    let is_run = are_run_in_each_way(rt, alloc, &capture.config, capture.lines.as_slice());
-    drop(capture);
-    is_run
+    let are_run = are_run_in_each_way(rt, alloc, &capture.config, capture.lines.as_slice());
+    match are_run {
+        Ok(true) => Ok(()),
+        _ => Err(Fail::from(row.name)),
+    }
 }
 
-/// Whether all runs are run so. An `Err` names the first that isn't.
-fn all_run<R: Threads + Wait + Sync>(rt: &R, alloc: Global, rows: &[Run]) -> Result<(), Fail> {
-    for row in rows {
-        // what joins and comes fills these histories
-        if !row.name.starts_with("history_full") && !is_run(rt, alloc, row)? {
-            return Err(Fail::from(row.name));
+/// The same of all runs.
+fn all_run<R: Threads + Wait + Sync>(rt: &R, alloc: Global) -> Result<(), Fail> {
+    for rows in all_runs() {
+        for row in rows {
+            // what joins and comes fills these histories
+            if !row.name.starts_with("history_full") {
+                is_run(rt, alloc, row)?;
+            }
         }
     }
     Ok(())
@@ -120,7 +118,5 @@ fn all_run<R: Threads + Wait + Sync>(rt: &R, alloc: Global, rows: &[Run]) -> Res
 
 #[test]
 fn rows_run(rt: HostRuntime) -> Result<(), Fail> {
-    all_run(&rt, rt.alloc(), &REQUEST_RUNS)?;
-    all_run(&rt, rt.alloc(), &LINK_RUNS)?;
-    all_run(&rt, rt.alloc(), &ANSWER_RUNS)
+    all_run(&rt, rt.alloc())
 }

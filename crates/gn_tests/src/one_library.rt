@@ -1,6 +1,6 @@
 //! Programs that stand on tineflax alone.
 
-use std::alloc::{Allocator, Global};
+use std::alloc::{AllocError, Allocator, Global};
 use std::sync::Wait;
 use std::test::Fail;
 use std::thread::Threads;
@@ -8,13 +8,13 @@ use tineflax::capture::write_history;
 use tineflax::frames::Reassembler;
 use tineflax::greeting::Role;
 use tineflax::links::{Link, MemoryLink, NoGate};
-use tineflax::replay::{ReplayFault, audit};
+use tineflax::replay::audit;
 use tineflax::router::{PlainRouter, TableRouter, legal};
 use tineflax::rules::{
     Config, Event, FreshRouter, Historian, Legality, Own, Reply, RouterCore, Step,
 };
 use tineflax::run::run;
-use tineflax::streams::{ReaderSource, Sink, Source, WriterSink};
+use tineflax::streams::{ReaderSource, WriterSink};
 use tineflax::wire::{Descriptor, Guid};
 
 /// The router's own servent.
@@ -33,76 +33,85 @@ const PING: &[u8] = b"0123456789abcdef\x00\x07\x00\x00\x00\x00\x00";
 const PONG: &[u8] =
     b"0123456789abcdef\x01\x01\x00\x0e\x00\x00\x00\xca\x18\x7f\x00\x00\x01\x05\x00\x00\x00\x28\x00\x00\x00";
 
-/// The packets that a reply sends, one after another.
-fn packets_of(alloc: Global, reply: &Reply) -> Result<Vec<u8>, Fail> {
-    let mut written = Vec::new(alloc);
+/// Appends the packets that a reply sends, one after another.
+fn push_sent<A: Allocator>(out: &mut Vec<u8, A>, reply: &Reply<A>) -> Result<(), AllocError> {
     if let Reply::Routed { sends, .. } = reply {
         for sending in sends.as_slice() {
-            sending.packet.write_to(&mut written)?;
+            sending.packet.write_to(out)?;
         }
     }
-    Ok(written)
+    Ok(())
 }
 
-/// The descriptor whose encoding this is.
-fn descriptor_of(alloc: Global, bytes: &[u8]) -> Result<Descriptor, Fail> {
-    let mut frames = Reassembler::new(alloc)?;
-    let answer = frames.feed(bytes);
-    drop(frames);
-    let Ok(fed) = answer else {
-        return Err(Fail::from("an answer"));
-    };
-    let mut descriptors = fed.descriptors;
+/// The last of these descriptors.
+fn last_of<A: Allocator>(mut descriptors: Vec<Descriptor<A>, A>) -> Result<Descriptor<A>, Fail> {
     let last = descriptors.pop();
     drop(descriptors);
-    Ok(last.ok_or("a descriptor")?)
+    match last {
+        Some(descriptor) => Ok(descriptor),
+        None => Err(Fail::from("a descriptor")),
+    }
 }
 
-/// A router's reply to an event.
-fn reply_to(router: &mut PlainRouter, event: Event) -> Result<Reply, Fail> {
-    let answer = router.apply(0, &event);
-    drop(event);
-    match answer {
-        Ok(receipt) => Ok(receipt.reply),
+/// The last descriptor that these bytes encode.
+fn descriptor_of<A: Allocator + Copy>(alloc: A, bytes: &[u8]) -> Result<Descriptor<A>, Fail> {
+    let mut frames = Reassembler::new(alloc)?;
+    match frames.feed(bytes) {
+        Ok(fed) => last_of(fed.descriptors),
+        Err(_) => Err(Fail::from("an answer")),
+    }
+}
+
+/// Appends what a router sends as it answers an event.
+fn push_answer<A: Allocator + Copy>(
+    out: &mut Vec<u8, A>,
+    router: &mut PlainRouter<A>,
+    event: Event<A>,
+) -> Result<(), Fail> {
+    match &router.apply(0, &event) {
+        Ok(receipt) => Ok(push_sent(out, &receipt.reply)?),
         Err(_) => Err(Fail::from("a reply")),
     }
 }
 
-/// Admits and routes the Ping on a new connection: the packets that the router sends.
-fn answer_to_ping(alloc: Global, router: &mut PlainRouter) -> Result<Vec<u8>, Fail> {
-    drop(reply_to(router, Event::Connect)?);
-    let ping = descriptor_of(alloc, PING)?;
-    drop(reply_to(router, Event::Admit(1, ping))?);
-    let reply = reply_to(router, Event::Route(0))?;
-    let written = packets_of(alloc, &reply);
-    drop(reply);
-    written
+/// Admits and routes the Ping on a new connection, and appends what the router sends.
+fn push_pong<A: Allocator + Copy>(
+    alloc: A,
+    out: &mut Vec<u8, A>,
+    router: &mut PlainRouter<A>,
+) -> Result<(), Fail> {
+    push_answer(out, router, Event::Connect)?;
+    push_answer(out, router, Event::Admit(1, descriptor_of(alloc, PING)?))?;
+    push_answer(out, router, Event::Route(0))
 }
 
 /// The configuration of both programs.
 fn usual() -> Result<Config, Fail> {
-    match Config::new(4, 8, 4, 8, 8, 100, 0, 0, OWN) {
-        Ok(config) => Ok(config),
-        Err(_) => Err(Fail::from("a configuration")),
-    }
+    Ok(Config::new(4, 8, 4, 8, 8, 100, 0, 0, OWN)?)
 }
 
-/// How the history of a router is judged that answers the Ping, and the packets that it sends.
-fn answered(alloc: Global) -> Result<(Legality, Vec<u8>), Fail> {
+/// Fails where a router doesn't answer the Ping with the Pong, or its history isn't legal.
+fn answers_ping<A: Allocator + Copy>(alloc: A) -> Result<(), Fail> {
     let config = usual()?;
-    let mut router = PlainRouter::make(alloc, &config)?;
-    let written = answer_to_ping(alloc, &mut router);
+    let mut router = PlainRouter::<A>::make(alloc, &config)?;
+    let mut sent = Vec::new(alloc);
+    let answered = push_pong(alloc, &mut sent, &mut router);
     let history = router.into_history();
     let legality = legal(&config, history.as_slice());
+    let is_pong = sent.as_slice() == PONG;
     drop(history);
-    Ok((legality, written?))
+    drop(sent);
+    answered?;
+    if is_pong && legality == Legality::Legal {
+        Ok(())
+    } else {
+        Err(Fail::from("the Pong, and a legal history"))
+    }
 }
 
 #[test]
 fn a_ping_is_answered(rt: HostRuntime) -> Result<(), Fail> {
-    let (legality, written) = answered(rt.alloc())?;
-    assert!(rt; legality == Legality::Legal && written.as_slice() == PONG);
-    Ok(())
+    answers_ping(rt.alloc())
 }
 
 /// The steps of a run of these links by two workers.
@@ -146,38 +155,31 @@ fn history_of<R: Threads + Wait + Sync>(
     Ok(history)
 }
 
-/// An audit at the router with tables, over any allocator.
-fn audit_with_tables<A: Allocator + Copy, S: Source, W: Sink>(
-    alloc: A,
-    source: &mut S,
-    sink: &mut W,
-) -> Result<Legality, ReplayFault> {
-    audit::<A, TableRouter<A>, S, W>(alloc, source, sink)
-}
-
-/// What an audit finds of a history, and states.
-fn audited(alloc: Global, history: &[u8]) -> (Result<Legality, ReplayFault>, Vec<u8>) {
+/// Whether an audit at the router with tables finds a history of five steps legal. The router is named for any
+/// allocator, since one over Global is dear to prove.
+fn is_audited<A: Allocator + Copy>(alloc: A, history: &[u8]) -> bool {
     let mut source = ReaderSource::new(history);
     let mut sink = WriterSink::new(Vec::new(alloc));
-    let legality = audit_with_tables(alloc, &mut source, &mut sink);
-    drop(source);
-    (legality, sink.into_inner())
+    let known = audit::<A, TableRouter<A>, _, _>(alloc, &mut source, &mut sink);
+    let stated = sink.into_inner();
+    let is_stated = stated.as_slice() == b"legal 5\n".as_slice();
+    drop(stated);
+    is_stated && known == Ok(Legality::Legal)
 }
 
-/// The same of the history of that run.
-fn run_audited<R: Threads + Wait + Sync>(
-    rt: &R,
-    alloc: Global,
-) -> Result<(Result<Legality, ReplayFault>, Vec<u8>), Fail> {
+/// Fails where that isn't so of the history of that run.
+fn is_run_audited<R: Threads + Wait + Sync>(rt: &R, alloc: Global) -> Result<(), Fail> {
     let history = history_of(rt, alloc, &usual()?)?;
-    let audited = audited(alloc, history.as_slice());
+    let is_audited = is_audited(alloc, history.as_slice());
     drop(history);
-    Ok(audited)
+    if is_audited {
+        Ok(())
+    } else {
+        Err(Fail::from("an audit of five steps"))
+    }
 }
 
 #[test]
 fn a_run_is_audited(rt: HostRuntime) -> Result<(), Fail> {
-    let (legality, stated) = run_audited(&rt, rt.alloc())?;
-    assert!(rt; legality == Ok(Legality::Legal) && stated.as_slice() == b"legal 5\n".as_slice());
-    Ok(())
+    is_run_audited(&rt, rt.alloc())
 }

@@ -1,127 +1,93 @@
 //! Each run, replayed on each router: its text byte for byte, and its history written, read back and audited.
 
-use crate::answer_runs::ANSWER_RUNS;
 use crate::compare::same;
 use crate::encoding::encoded;
-use crate::link_runs::LINK_RUNS;
-use crate::request_runs::REQUEST_RUNS;
-use crate::run::{Run, capture_of};
+use crate::histories::is_written_as;
+use crate::run::{Run, all_runs, capture_of};
 use gn_capture::{read_history, write_history};
 use gn_io::{ReaderSource, WriterSink};
-use gn_replay::{ReplayFault, audit, play};
-use gn_rules::{Config, Historian, Legality, Step};
+use gn_replay::{audit, play};
+use gn_rules::{Historian, Legality};
 use gn_search::PlainRouter;
 use gn_table_router::TableRouter;
 use gn_witness::legal;
-use std::alloc::{Allocator, Global};
+use std::alloc::{AllocError, Allocator, Global};
 use std::process::Abort;
 use std::test::Fail;
 
-/// Compares what is written again of a history.
-fn is_written_again<R: Abort + AllocGlobal>(
-    rt: &R,
-    name: &'static str,
-    config: &Config,
-    steps: &[Step],
-    written: &[u8],
-) -> Result<(), Fail> {
-    let mut again = Vec::new(rt.alloc());
-    let is_written = write_history(config, steps, &mut again);
-    same(rt, name, &again, written);
-    drop(again);
-    Ok(is_written?)
-}
-
-/// Compares what a history is read back as, and gives the number of its steps, which are legal.
-fn steps_of<R: Abort + AllocGlobal>(
-    rt: &R,
-    name: &'static str,
-    written: &[u8],
-) -> Result<usize, Fail> {
-    let Ok((config, steps)) = read_history(rt.alloc(), written) else {
-        return Err(Fail::from(name));
+/// How many steps a history has that is read, where they are legal.
+fn legal_steps(alloc: Global, written: &[u8]) -> Option<usize> {
+    let Ok((config, steps)) = read_history(alloc, written) else {
+        return None;
     };
-    let (legality, count) = (legal(&config, &steps), steps.len());
-    let is_written = is_written_again(rt, name, &config, &steps, written);
+    let legality = legal(&config, steps.as_slice());
+    let count = steps.len();
     drop(steps);
-    is_written?;
-    assert!(rt; legality == Legality::Legal, "{name}");
-    Ok(count)
+    if legality == Legality::Legal {
+        Some(count)
+    } else {
+        None
+    }
 }
 
-/// What an audit finds of a history, and states.
-fn audited<A: Allocator + Copy, C: Historian<A> + Drop>(
+/// Whether an audit finds a history legal, and states this of it.
+fn is_audited<A: Allocator + Copy, C: Historian<A> + Drop>(
     texts: Global,
     alloc: A,
     written: &[u8],
-) -> (Result<Legality, ReplayFault>, Vec<u8>) {
+    stated: &[u8],
+) -> bool {
     let mut source = ReaderSource::new(written);
     let mut sink = WriterSink::new(Vec::new(texts));
     let known = audit::<A, C, _, _>(alloc, &mut source, &mut sink);
-    drop(source);
-    (known, sink.into_inner())
-}
-
-/// Compares what is stated of a history of so many steps.
-fn is_audited<A: Allocator + Copy, C: Historian<A> + Drop, R: Abort + AllocGlobal>(
-    rt: &R,
-    alloc: A,
-    name: &'static str,
-    written: &[u8],
-    steps: usize,
-) -> Result<(), Fail> {
-    let line = format!(in rt.alloc(); "legal {steps}\n")?;
-    let (known, found) = audited::<A, C>(rt.alloc(), alloc, written);
-    same(rt, name, &found, line.as_bytes());
+    let found = sink.into_inner();
+    let is_stated = found.as_slice() == stated;
     drop(found);
-    drop(line);
-    assert!(rt; known == Ok(Legality::Legal), "{name}");
-    Ok(())
+    is_stated && known == Ok(Legality::Legal)
 }
 
-/// Compares what a history's text is read back as, and what is stated of it.
-fn text_is_kept<A: Allocator + Copy, C: Historian<A> + Drop, R: Abort + AllocGlobal>(
-    rt: &R,
+/// Whether a history of legal steps is written again as it is read, and audited.
+fn is_kept<A: Allocator + Copy, C: Historian<A> + Drop>(
+    texts: Global,
     alloc: A,
-    name: &'static str,
     written: &[u8],
-) -> Result<(), Fail> {
-    let steps = steps_of(rt, name, written)?;
-    is_audited::<A, C, R>(rt, alloc, name, written, steps)
+) -> Result<bool, AllocError> {
+    let Some(steps) = legal_steps(texts, written) else {
+        return Ok(false);
+    };
+    let line = format!(in texts; "legal {steps}\n")?;
+    let is_audited = is_audited::<A, C>(texts, alloc, written, line.as_bytes());
+    drop(line);
+    Ok(is_audited && is_written_as(texts, written, written))
 }
 
-/// Compares what a router's history is read back as, and what is stated of it.
-fn history_is_kept<A: Allocator + Copy, C: Historian<A> + Drop, R: Abort + AllocGlobal>(
-    rt: &R,
-    alloc: A,
-    name: &'static str,
+/// A router's history, written.
+fn history_of<A: Allocator + Copy, C: Historian<A>>(
+    texts: Global,
     core: &C,
-) -> Result<(), Fail> {
-    let mut written = Vec::new(rt.alloc());
+) -> Result<Vec<u8>, AllocError> {
+    let mut written = Vec::new(texts);
     write_history(core.config(), core.history(), &mut written)?;
-    let is_kept = text_is_kept::<A, C, R>(rt, alloc, name, &written);
-    drop(written);
-    is_kept
+    Ok(written)
 }
 
-/// Plays a run, and compares what is printed. The router, after all events.
-fn printed_by<A: Allocator + Copy, C: Historian<A> + Drop, R: Abort + AllocGlobal>(
+/// Plays a run, and compares what is printed. The router's history after all events, written.
+fn history_after<A: Allocator + Copy, C: Historian<A> + Drop, R: Abort + AllocGlobal>(
     rt: &R,
     alloc: A,
     run: &Run,
     wanted: &[u8],
-) -> Result<C, Fail> {
+) -> Result<Vec<u8>, Fail> {
     let capture = capture_of(rt.alloc(), alloc, run)?;
     let mut sink = WriterSink::new(Vec::new(rt.alloc()));
     let played = play::<A, C, _>(alloc, capture, &mut sink);
     let found = sink.into_inner();
-    let Ok(replayed) = played else {
-        drop(found);
-        return Err(Fail::from(run.name));
-    };
     same(rt, run.name, &found, wanted);
     drop(found);
-    Ok(replayed.core)
+    match &played {
+        Ok(replayed) => Ok(history_of::<A, C>(rt.alloc(), &replayed.core)?),
+        Err(_) => Err(Fail::from(run.name)),
+    }
 }
 
 /// Replays a run, and compares its text, its history and the verdict on that.
@@ -131,12 +97,15 @@ fn plays<A: Allocator + Copy, C: Historian<A> + Drop, R: Abort + AllocGlobal>(
     run: &Run,
 ) -> Result<(), Fail> {
     let printed = encoded(rt.alloc(), run.printed)?;
-    let core = printed_by::<A, C, R>(rt, alloc, run, printed.as_bytes());
+    let written = history_after::<A, C, R>(rt, alloc, run, printed.as_bytes())?;
     drop(printed);
-    let core = core?;
-    let is_kept = history_is_kept::<A, C, R>(rt, alloc, run.name, &core);
-    drop(core);
-    is_kept
+    let is_kept = is_kept::<A, C>(rt.alloc(), alloc, &written);
+    drop(written);
+    if is_kept? {
+        Ok(())
+    } else {
+        Err(Fail::from(run.name))
+    }
 }
 
 /// The same for each run of the three lists.
@@ -144,7 +113,7 @@ fn all_play<A: Allocator + Copy, C: Historian<A> + Drop, R: Abort + AllocGlobal>
     rt: &R,
     alloc: A,
 ) -> Result<(), Fail> {
-    for runs in [REQUEST_RUNS.as_slice(), &LINK_RUNS, &ANSWER_RUNS] {
+    for runs in all_runs() {
         for run in runs {
             plays::<A, C, R>(rt, alloc, run)?;
         }

@@ -18,7 +18,7 @@ own eeeeeeeeeeeeeeeeeeeeeeeeeeeeeeee 127.0.0.1 6346 5 40\n\
 end\n";
 
 /// The indices of each actor's steps.
-const OWN: [&[u32]; 3] = [&[0, 2, 4], &[], &[3]];
+static OWN: [&[u32]; 3] = [&[0, 2, 4], &[], &[3]];
 
 /// Whether an actor's receipts are of its steps at these indices, in order.
 fn are_of(actor: u32, receipts: &[Receipt], steps: &[Step], indices: &[u32]) -> bool {
@@ -41,18 +41,28 @@ fn are_own(all: &[Vec<Receipt>], steps: &[Step]) -> bool {
     all.len() == OWN.len()
 }
 
-/// Whether the receipts that are made of that history are each actor's own.
-fn makes_own(alloc: Global) -> Result<bool, Fail> {
-    let (_, steps) = read_history(alloc, HISTORY.as_bytes())?;
+/// Whether the receipts that are made of these five steps are each actor's own.
+fn makes_own(alloc: Global, steps: &[Step]) -> Result<bool, Fail> {
     if steps.len() != 5 {
         return Ok(false);
     }
-    let all = receipts_by_actor(alloc, steps.as_slice(), 3)?;
-    Ok(are_own(all.as_slice(), steps.as_slice()))
+    let all = receipts_by_actor(alloc, steps, 3)?;
+    Ok(are_own(all.as_slice(), steps))
+}
+
+/// Fails where that doesn't hold of that history.
+fn history_makes_own(alloc: Global) -> Result<(), Fail> {
+    let (_, steps) = read_history(alloc, HISTORY.as_bytes())?;
+    let makes_own = makes_own(alloc, steps.as_slice());
+    drop(steps);
+    if makes_own? {
+        Ok(())
+    } else {
+        Err(Fail::from("receipts"))
+    }
 }
 
 #[test]
 fn each_actor_has_its_own_receipts(rt: HostRuntime) -> Result<(), Fail> {
-    assert!(rt; makes_own(rt.alloc())?);
-    Ok(())
+    history_makes_own(rt.alloc())
 }

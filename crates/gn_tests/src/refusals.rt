@@ -1,5 +1,6 @@
 //! What only calls can be refused: payloads that aren't written, and a feed after a fault.
 
+use crate::compare::wrong_at;
 use gn_fixtures::PING;
 use gn_frames::{FeedRefusal, Reassembler};
 use gn_payload::{HitResult, WriteRefusal, write_hit, write_query};
@@ -33,8 +34,10 @@ fn query_of(alloc: Global, text: &[u8]) -> Result<usize, WriteRefusal> {
     let written = write_query(0, text, b"", &mut out);
     let size = out.len();
     drop(out);
-    written?;
-    Ok(size)
+    match written {
+        Ok(()) => Ok(size),
+        Err(refusal) => Err(refusal),
+    }
 }
 
 /// How many bytes a Query Hit of these results has, without a trailer.
@@ -51,35 +54,33 @@ fn hit_of(alloc: Global, results: &[HitResult<'_>]) -> Result<usize, WriteRefusa
     );
     let size = out.len();
     drop(out);
-    written?;
-    Ok(size)
+    match written {
+        Ok(()) => Ok(size),
+        Err(refusal) => Err(refusal),
+    }
 }
 
-/// The same of a text with a zero byte, of one of 65,534 bytes, and of one of 65,533.
-fn three_queries(alloc: Global) -> Result<[Result<usize, WriteRefusal>; 3], Fail> {
+/// Whether that is so of a text with a zero byte, of one of 65,534 bytes, and of one of 65,533. A payload has at most
+/// 65,536 bytes: a Query's speed has two, and a zero byte ends its text.
+fn are_queries_refused(alloc: Global) -> Result<bool, Fail> {
     let text = vec![in alloc; b'a'; 65_534]?;
-    let answers = [
-        query_of(alloc, b"a\0"),
-        query_of(alloc, &text[..65_534]),
-        query_of(alloc, &text[..65_533]),
-    ];
+    let zero = query_of(alloc, b"a\0");
+    let long = query_of(alloc, &text[..65_534]);
+    let longest = query_of(alloc, &text[..65_533]);
     drop(text);
-    Ok(answers)
+    Ok(
+        [zero, long, longest]
+            == [
+                Err(WriteRefusal::ZeroInText),
+                Err(WriteRefusal::TooLong),
+                Ok(65_536),
+            ],
+    )
 }
 
-/// A payload has at most 65,536 bytes: a Query's speed has two, and a zero byte ends its text. A Query Hit has 11 bytes before its
-/// results, and 16 behind them.
-#[test]
-fn payloads_that_are_not_written(rt: HostRuntime) -> Result<(), Fail> {
-    let alloc = rt.alloc();
-    assert_eq!(rt;
-        three_queries(alloc)?,
-        [
-            Err(WriteRefusal::ZeroInText),
-            Err(WriteRefusal::TooLong),
-            Ok(65_536),
-        ]
-    );
+/// Fails at the first Query Hit that isn't written or refused as its row says. It has 11 bytes before its results, and
+/// 16 behind them.
+fn are_hits_refused(alloc: Global) -> Result<(), Fail> {
     let results = [RESULT; 256];
     let hits = [
         (&results[..255], Ok(11 + 255 * 12 + 16)),
@@ -87,10 +88,21 @@ fn payloads_that_are_not_written(rt: HostRuntime) -> Result<(), Fail> {
         ([ZERO_IN_NAME].as_slice(), Err(WriteRefusal::ZeroInText)),
         ([ZERO_IN_EXTRA].as_slice(), Err(WriteRefusal::ZeroInText)),
     ];
-    for (results, answer) in hits {
-        assert_eq!(rt; hit_of(alloc, results), answer);
+    for (number, (results, answer)) in hits.iter().enumerate() {
+        if hit_of(alloc, *results) != *answer {
+            return Err(wrong_at(number));
+        }
     }
     Ok(())
+}
+
+#[test]
+fn payloads_that_are_not_written(rt: HostRuntime) -> Result<(), Fail> {
+    if are_queries_refused(rt.alloc())? {
+        are_hits_refused(rt.alloc())
+    } else {
+        Err(Fail::from("a Query"))
+    }
 }
 
 /// A Ping of length 1.
@@ -102,9 +114,7 @@ fn is_at_fault(frames: &mut Reassembler) -> bool {
     match frames.feed(BROKEN) {
         Ok(fed) => {
             let fault = Some(FrameFault::FixedLength(Kind::Ping, 1));
-            let is_at_fault = fed.descriptors.is_empty() && fed.fault == fault;
-            drop(fed);
-            is_at_fault
+            (fed.descriptors.len(), fed.fault) == (0, fault)
         }
         Err(_) => false,
     }
@@ -115,18 +125,20 @@ fn has_ended(frames: &mut Reassembler, piece: &[u8]) -> bool {
     frames.feed(piece).err() == Some(FeedRefusal::Ended)
 }
 
-/// Whether no piece is taken after that fault, be it whole or empty.
-fn ends_at_a_fault(alloc: Global) -> Result<bool, Fail> {
+/// Fails where a piece is taken after that fault, be it whole or empty.
+fn ends_at_a_fault(alloc: Global) -> Result<(), Fail> {
     let mut frames = Reassembler::new(alloc)?;
-    let has_ended = is_at_fault(&mut frames)
-        && has_ended(&mut frames, PING)
-        && has_ended(&mut frames, b"");
-    drop(frames);
-    Ok(has_ended)
+    let is_at_fault = is_at_fault(&mut frames);
+    let whole = has_ended(&mut frames, PING);
+    let empty = has_ended(&mut frames, b"");
+    if is_at_fault && whole && empty {
+        Ok(())
+    } else {
+        Err(Fail::from("a fault, and no more"))
+    }
 }
 
 #[test]
 fn a_feed_after_a_fault(rt: HostRuntime) -> Result<(), Fail> {
-    assert!(rt; ends_at_a_fault(rt.alloc())?);
-    Ok(())
+    ends_at_a_fault(rt.alloc())
 }

@@ -3,7 +3,7 @@
 use crate::run::{Run, USUAL};
 
 /// Each run with what is printed for it.
-pub(crate) const REQUEST_RUNS: [Run; 9] = [
+pub(crate) static REQUEST_RUNS: [Run; 9] = [
     Run {
         name: "nothing",
         numbers: USUAL,
@@ -133,13 +133,3 @@ pub(crate) const REQUEST_RUNS: [Run; 9] = [
             refused NotLive",
     },
 ];
-
-/// The run of this name.
-pub(crate) fn request_run(name: &'static str) -> Result<Run, &'static str> {
-    for run in &REQUEST_RUNS {
-        if run.name == name {
-            return Ok(*run);
-        }
-    }
-    Err(name)
-}

@@ -1,6 +1,9 @@
 //! What a run is.
 
+use crate::answer_runs::ANSWER_RUNS;
 use crate::encoding::encoded;
+use crate::link_runs::LINK_RUNS;
+use crate::request_runs::REQUEST_RUNS;
 use gn_capture::{Capture, read_capture};
 use std::alloc::{AllocError, Allocator, Global};
 use std::test::Fail;
@@ -8,8 +11,10 @@ use std::test::Fail;
 /// The numbers of the configuration that most runs have.
 pub(crate) const USUAL: &str = "4 8 4 8 8 100";
 
+/// The line of the own servent.
+const OWN: &str = "own eeeeeeeeeeeeeeeeeeeeeeeeeeeeeeee 127.0.0.1 6346 5 40\n";
+
 /// A capture, and what is printed of it. The texts are short ones, as stated in `encoding`.
-#[derive(Clone, Copy)]
 pub(crate) struct Run {
     pub name: &'static str,
     /// The numbers of its configuration.
@@ -20,6 +25,11 @@ pub(crate) struct Run {
     pub printed: &'static str,
 }
 
+/// All runs.
+pub(crate) fn all_runs() -> [&'static [Run]; 3] {
+    [&REQUEST_RUNS, &LINK_RUNS, &ANSWER_RUNS]
+}
+
 /// The text of a capture of these numbers and lines: of version 1 where there are six numbers, 2 where there are seven, and
 /// 3 where there are eight; of version 5 where a line is `route all`.
 pub(crate) fn capture_text(
@@ -27,14 +37,13 @@ pub(crate) fn capture_text(
     numbers: &str,
     lines: &str,
 ) -> Result<String, AllocError> {
-    let own = encoded(alloc, "own <ee> 127.0.0.1 6346 5 40")?;
     let lines = encoded(alloc, lines)?;
     let version = if lines.contains("route all") {
         5
     } else {
         numbers.split(' ').count().saturating_sub(5)
     };
-    format!(in alloc; "gnutella-capture {version}\nconfig {numbers}\n{own}{lines}")
+    format!(in alloc; "gnutella-capture {version}\nconfig {numbers}\n{OWN}{lines}")
 }
 
 /// The capture of a run.

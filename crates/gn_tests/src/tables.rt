@@ -5,6 +5,8 @@ use std::mem::size_of;
 
 #[test]
 fn bytes_that_rings_take(rt: HostRuntime) {
-    assert_eq!(rt; size_of::<(Key, u32)>(), 24);
-    assert_eq!(rt; size_of::<Descriptor>(), 64);
+    assert_eq!(rt;
+        [size_of::<(Key, u32)>(), size_of::<Descriptor>()],
+        [24, 64]
+    );
 }

@@ -2,17 +2,17 @@
 
 mod acts;
 
-pub(crate) use acts::hears;
+pub(crate) use acts::{hears, sends};
 use acts::{
     ANSWERED, CALLED, DRIPS, ECHOES, ENDS, LEAVES, LET_IN, RESETS, SHUTS_READING, hears_the_end,
-    plays, sends,
+    plays,
 };
 use gn_fixtures::PING;
 use gn_service::Serving;
 use gn_shake::request;
 use gn_tcp::listen;
 use std::io::{ErrorKind, Read, Write};
-use std::net::{Net, SocketAddr, TcpListener, TcpStream};
+use std::net::{Net, Shutdown, SocketAddr, TcpListener, TcpStream};
 use std::time::{Clock, Duration};
 use std::{io, thread};
 
@@ -25,6 +25,8 @@ pub(crate) enum Peer {
     Turns,
     /// A stranger that doesn't greet, and after it a client: the run isn't over when the stranger is let go.
     Stranger,
+    /// Is let in, and leaves.
+    Leaves,
     /// The run calls it: it sends a Ping, hears the Pong and sends no more.
     Called,
     /// The same, but it listens only after a while.
@@ -76,25 +78,29 @@ fn limit(caller: &TcpStream) -> io::Result<()> {
     caller.set_nodelay(true)
 }
 
-/// This caller, where what came before went well.
-fn where_well(caller: TcpStream, before: io::Result<()>) -> io::Result<TcpStream> {
-    match before {
-        Ok(()) => Ok(caller),
-        Err(why) => {
-            drop(caller);
-            Err(why)
-        }
-    }
+/// What a caller of the run begins with.
+#[derive(Clone, Copy)]
+enum Opening<'a> {
+    /// With nothing.
+    Nothing,
+    /// With its greeting and these bytes.
+    Sent(&'a [u8]),
+    /// With the same, and its end.
+    AllSent(&'a [u8]),
+    /// With its greeting. It waits for the first byte that comes, which it doesn't read: it may come in.
+    Greeted,
 }
 
-/// A caller of the run. What it waits for longer than 20 seconds fails.
-fn caller<N: Net<Listener = TcpListener, Stream = TcpStream>>(
-    net: &N,
-    at: SocketAddr,
-) -> io::Result<TcpStream> {
-    let caller = TcpStream::connect(net, at)?;
-    let limited = limit(&caller);
-    where_well(caller, limited)
+/// Greets, and sends these bytes.
+fn greet_and_send(client: &mut TcpStream, bytes: &[u8]) -> io::Result<()> {
+    client.write_all(request())?;
+    client.write_all(bytes)
+}
+
+/// Greets, sends these bytes and no more.
+fn greet_and_send_all(client: &mut TcpStream, bytes: &[u8]) -> io::Result<()> {
+    greet_and_send(client, bytes)?;
+    client.shutdown(Shutdown::Write)
 }
 
 /// Greets, and waits for the first byte that comes.
@@ -104,20 +110,28 @@ fn greet(client: &mut TcpStream) -> io::Result<()> {
     Ok(())
 }
 
-/// Greets, and sends these bytes.
-fn greet_and_send(client: &mut TcpStream, bytes: &[u8]) -> io::Result<()> {
-    client.write_all(request())?;
-    client.write_all(bytes)
+/// Begins so.
+fn begin(client: &mut TcpStream, opening: Opening<'_>) -> io::Result<()> {
+    limit(client)?;
+    match opening {
+        Opening::Nothing => Ok(()),
+        Opening::Sent(bytes) => greet_and_send(client, bytes),
+        Opening::AllSent(bytes) => greet_and_send_all(client, bytes),
+        Opening::Greeted => greet(client),
+    }
 }
 
-/// A client that has greeted, and has heard that it may come in; but it hasn't read that yet.
-fn greeted<N: Net<Listener = TcpListener, Stream = TcpStream>>(
+/// A caller of the run that has begun so. What it waits for longer than 20 seconds fails.
+fn caller<N: Net<Listener = TcpListener, Stream = TcpStream>>(
     net: &N,
     at: SocketAddr,
+    opening: Opening<'_>,
 ) -> io::Result<TcpStream> {
-    let mut client = caller(net, at)?;
-    let greeted = greet(&mut client);
-    where_well(client, greeted)
+    let mut caller = TcpStream::connect(net, at)?;
+    match begin(&mut caller, opening) {
+        Ok(()) => Ok(caller),
+        Err(why) => Err(why),
+    }
 }
 
 /// A client that has greeted and sent these bytes, and waits for nothing.
@@ -126,9 +140,16 @@ pub(crate) fn sent<N: Net<Listener = TcpListener, Stream = TcpStream>>(
     at: SocketAddr,
     bytes: &[u8],
 ) -> io::Result<TcpStream> {
-    let mut client = caller(net, at)?;
-    let sent = greet_and_send(&mut client, bytes);
-    where_well(client, sent)
+    caller(net, at, Opening::Sent(bytes))
+}
+
+/// The same, which has sent its end, too.
+pub(crate) fn all_sent<N: Net<Listener = TcpListener, Stream = TcpStream>>(
+    net: &N,
+    at: SocketAddr,
+    bytes: &[u8],
+) -> io::Result<TcpStream> {
+    caller(net, at, Opening::AllSent(bytes))
 }
 
 /// Two clients whose Pings have one ID: the second one's is a duplicate.
@@ -188,7 +209,7 @@ fn is_let_go(stranger: &mut TcpStream) -> bool {
 }
 
 /// A peer that is called by a run that fails: it hears the request and the end, or the end before that.
-pub(crate) fn is_given_up(caller: &mut TcpStream) -> bool {
+fn is_given_up(caller: &mut TcpStream) -> bool {
     let mut heard = [0u8; 22];
     match caller.read_exact(&mut heard) {
         Ok(()) => heard.as_slice() == request() && hears_the_end(caller),
@@ -196,27 +217,28 @@ pub(crate) fn is_given_up(caller: &mut TcpStream) -> bool {
     }
 }
 
-/// A peer that the run calls there, and that consents.
-pub(crate) fn called(listener: &TcpListener) -> bool {
+/// A peer that a run has called: it consents, or it is given up.
+fn hears_out(caller: &mut TcpStream, gives_up: bool) -> bool {
+    if gives_up {
+        is_given_up(caller)
+    } else {
+        plays(caller, CALLED)
+    }
+}
+
+/// A peer that a run calls there, which consents or is given up.
+pub(crate) fn called(listener: &TcpListener, gives_up: bool) -> bool {
     match listener.accept() {
-        Ok((mut caller, _)) => {
-            let is_good = plays(&mut caller, CALLED);
-            drop(caller);
-            is_good
-        }
+        Ok((mut caller, _)) => hears_out(&mut caller, gives_up),
         Err(_) => false,
     }
 }
 
-/// The same, which listens only after a while.
+/// One that consents, and listens only after a while.
 fn called_late<N: Net<Listener = TcpListener, Stream = TcpStream> + Clock>(net: &N) -> bool {
     thread::sleep(net, Duration::from_millis(200));
     match listen(net, LATE) {
-        Ok(listener) => {
-            let is_good = called(&listener);
-            drop(listener);
-            is_good
-        }
+        Ok(listener) => called(&listener, false),
         Err(_) => false,
     }
 }
@@ -382,8 +404,8 @@ fn play_two<N: Clock>(
     }
 }
 
-/// What a client does that has greeted, alone or with a second.
-fn play_greeted<N: Net<Listener = TcpListener, Stream = TcpStream> + Clock>(
+/// What a client does that has begun, alone or with a second.
+fn play_begun<N: Net<Listener = TcpListener, Stream = TcpStream> + Clock>(
     net: &N,
     at: SocketAddr,
     client: &mut TcpStream,
@@ -391,6 +413,9 @@ fn play_greeted<N: Net<Listener = TcpListener, Stream = TcpStream> + Clock>(
     serving: &Serving<'_>,
 ) -> bool {
     match peer {
+        Peer::Dawdles => dawdles(net, client),
+        Peer::Stranger => is_let_go(client),
+        Peer::Leaves => plays(client, LEAVES),
         Peer::Stays => stays(client, serving, false),
         Peer::Stops => stays(client, serving, true),
         Peer::Floods => plays(client, LET_IN) && floods(client),
@@ -410,66 +435,31 @@ fn play_with_second<N: Net<Listener = TcpListener, Stream = TcpStream> + Clock>(
     peer: Peer,
     serving: &Serving<'_>,
 ) -> bool {
-    let Ok(mut second) = greeted(net, at) else {
-        return false;
-    };
-    let is_good = play_two(net, client, &mut second, peer, serving);
-    drop(second);
-    is_good
+    match caller(net, at, Opening::Greeted) {
+        Ok(mut second) => play_two(net, client, &mut second, peer, serving),
+        Err(_) => false,
+    }
 }
 
-/// A client that dawdles.
-fn play_dawdler<N: Net<Listener = TcpListener, Stream = TcpStream> + Clock>(
-    net: &N,
-    at: SocketAddr,
-) -> bool {
-    let Ok(mut client) = caller(net, at) else {
-        return false;
-    };
-    let is_good = dawdles(net, &mut client);
-    drop(client);
-    is_good
+/// What such a client begins with.
+fn opening_of(peer: Peer) -> Opening<'static> {
+    match peer {
+        Peer::Dawdles | Peer::Stranger => Opening::Nothing,
+        _ => Opening::Greeted,
+    }
 }
 
-/// A stranger, which is let go.
-fn play_stranger<N: Net<Listener = TcpListener, Stream = TcpStream>>(
-    net: &N,
-    at: SocketAddr,
-) -> bool {
-    let Ok(mut stranger) = caller(net, at) else {
-        return false;
-    };
-    let is_let_go = is_let_go(&mut stranger);
-    drop(stranger);
-    is_let_go
-}
-
-/// A client that is let in, and leaves.
-fn play_leaver<N: Net<Listener = TcpListener, Stream = TcpStream>>(
-    net: &N,
-    at: SocketAddr,
-) -> bool {
-    let Ok(mut client) = greeted(net, at) else {
-        return false;
-    };
-    let leaves = plays(&mut client, LEAVES);
-    drop(client);
-    leaves
-}
-
-/// One or two clients that greet first.
+/// One or two clients that call the run.
 fn play_client<N: Net<Listener = TcpListener, Stream = TcpStream> + Clock>(
     net: &N,
     at: SocketAddr,
     peer: Peer,
     serving: &Serving<'_>,
 ) -> bool {
-    let Ok(mut client) = greeted(net, at) else {
-        return false;
-    };
-    let is_good = play_greeted(net, at, &mut client, peer, serving);
-    drop(client);
-    is_good
+    match caller(net, at, opening_of(peer)) {
+        Ok(mut client) => play_begun(net, at, &mut client, peer, serving),
+        Err(_) => false,
+    }
 }
 
 /// The peers' part of a run: whether they heard what they had to.
@@ -481,10 +471,11 @@ pub(crate) fn play<N: Net<Listener = TcpListener, Stream = TcpStream> + Clock>(
     serving: &Serving<'_>,
 ) -> bool {
     match peer {
-        Peer::Called => called(theirs),
+        Peer::Called => called(theirs, false),
         Peer::CalledLate => called_late(net),
-        Peer::Dawdles => play_dawdler(net, at),
-        Peer::Stranger => play_stranger(net, at) && play_leaver(net, at),
+        Peer::Stranger => {
+            play_client(net, at, peer, serving) && play_client(net, at, Peer::Leaves, serving)
+        }
         _ => play_client(net, at, peer, serving),
     }
 }

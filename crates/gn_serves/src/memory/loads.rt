@@ -21,8 +21,22 @@ join\n\
 data 1 a1a1a1a1a1a1a1a1a1a1a1a1a1a1a1a100070000000000\n\
 data 2 a2a2a2a2a2a2a2a2a2a2a2a2a2a2a2a200070000000000\n";
 
-/// Loads the capture, where these growths are refused, and writes to a memory of its own: out of memory and nothing written, or
-/// a history to its end.
+/// How a load went that answered so and wrote this: out of memory and nothing written, or a history to its end.
+fn turn_of(loaded: Result<(), LoadFault>, has_refused: bool, written: &[u8]) -> Turn {
+    match loaded {
+        Ok(()) if !written.ends_with(b"\nend\n") => Turn::Wrong,
+        Ok(()) if has_refused => Turn::Refused,
+        Ok(()) => Turn::Answered,
+        Err(
+            LoadFault::Text(ReplayFault::NoMemory)
+            | LoadFault::Run(RunFault::NoMemory)
+            | LoadFault::Run(RunFault::Stage(StageFault::NoMemory)),
+        ) if has_refused && written.is_empty() => Turn::Refused,
+        Err(_) => Turn::Wrong,
+    }
+}
+
+/// Loads the capture, where these growths are refused, and writes to a memory of its own.
 fn load_refused<A: Allocator + Copy + Send + Sync, B: Allocator + Copy, R: Threads + Wait + Sync>(
     rt: &R,
     heap: &Heap,
@@ -37,21 +51,7 @@ fn load_refused<A: Allocator + Copy + Send + Sync, B: Allocator + Copy, R: Threa
     let has_refused = heap.has_refused();
     heap.refuse_none();
     let written = sink.into_inner();
-    match loaded {
-        Ok(()) if written.ends_with(b"\nend\n") => {
-            if has_refused {
-                Turn::Refused
-            } else {
-                Turn::Answered
-            }
-        }
-        Err(
-            LoadFault::Text(ReplayFault::NoMemory)
-            | LoadFault::Run(RunFault::NoMemory)
-            | LoadFault::Run(RunFault::Stage(StageFault::NoMemory)),
-        ) if has_refused && written.is_empty() => Turn::Refused,
-        _ => Turn::Wrong,
-    }
+    turn_of(loaded, has_refused, written.as_slice())
 }
 
 /// How many growths of a load are refused, each alone or with all later ones, until a load meets none.

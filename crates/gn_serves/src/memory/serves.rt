@@ -3,10 +3,8 @@
 use crate::loopback;
 use crate::wanted::a_listener;
 use gn_fixtures::{Heap, Refused, Turn, has_answered, refused_at};
-use gn_report::Report;
 use gn_service::Serving;
 use gn_stage::StageFault;
-use gn_tcp::{TcpReader, TcpWriter};
 use gn_threads::RunFault;
 use std::alloc::Allocator;
 use std::net::{Net, SocketAddr, TcpListener, TcpStream};
@@ -16,10 +14,7 @@ use std::thread;
 use std::thread::Threads;
 use std::time::Clock;
 
-/// What such a run returns.
-type Served<A> = Result<Report<TcpReader<'static>, TcpWriter, A>, RunFault>;
-
-/// Serves two callers, and lets the listener go.
+/// Serves two callers, and lets the listener and the report go: the fault of the run.
 fn serve<
     A: Allocator + Copy + Send + Sync,
     R: Threads
@@ -28,8 +23,8 @@ fn serve<
         + Clock
         + AllocGlobal
         + Sync,
->(rt: &R, alloc: A, listener: TcpListener) -> Served<A> {
-    loopback::serve(rt, alloc, &listener, 100, 2, &[], &Serving::UNLIMITED)
+>(rt: &R, alloc: A, listener: TcpListener) -> Option<RunFault> {
+    loopback::serve(rt, alloc, &listener, 100, 2, &[], &Serving::UNLIMITED).err()
 }
 
 /// Two clients that have both called before either leaves. A caller that waits when the listener goes is refused.
@@ -42,7 +37,7 @@ fn two_clients<N: Net<Listener = TcpListener, Stream = TcpStream>>(
     first.is_ok() && second.is_ok()
 }
 
-/// Both clients and the run that serves them: whether both called, and what it answered.
+/// Both clients and the run that serves them: whether both called, and its fault.
 fn both_are_served<
     A: Allocator + Copy + Send + Sync,
     R: Threads
@@ -51,7 +46,7 @@ fn both_are_served<
         + Clock
         + AllocGlobal
         + Sync,
->(rt: &R, alloc: A) -> Result<(bool, Served<A>), Fail> {
+>(rt: &R, alloc: A) -> Result<(bool, Option<RunFault>), Fail> {
     let listener = a_listener(rt)?;
     let at = listener.local_addr()?;
     Ok(thread::join(
@@ -76,11 +71,11 @@ fn serve_refused<
     let both = both_are_served(rt, alloc);
     let has_refused = heap.has_refused();
     heap.refuse_none();
-    let (have_called, served) = both?;
-    Ok(match served {
-        Ok(_report) if has_refused => Turn::Refused,
-        Ok(_report) if have_called => Turn::Answered,
-        Err(RunFault::NoMemory | RunFault::Stage(StageFault::NoMemory)) if has_refused => {
+    let (have_called, fault) = both?;
+    Ok(match fault {
+        None if has_refused => Turn::Refused,
+        None if have_called => Turn::Answered,
+        Some(RunFault::NoMemory | RunFault::Stage(StageFault::NoMemory)) if has_refused => {
             Turn::Refused
         }
         _ => Turn::Wrong,

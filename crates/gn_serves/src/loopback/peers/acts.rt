@@ -103,7 +103,7 @@ pub(super) const SHUTS_READING: &[Act] = &[
 ];
 
 /// Whether the system takes these bytes.
-pub(super) fn sends(peer: &mut TcpStream, bytes: &[u8]) -> bool {
+pub(crate) fn sends(peer: &mut TcpStream, bytes: &[u8]) -> bool {
     peer.write_all(bytes).is_ok()
 }
 
