@@ -17,7 +17,6 @@ use std::sync::ledger::{Ledger, Share};
 /// of the history that it has seen, and its share of the ledger is their number. It knows where the last of them stands, and what
 /// they count.
 /// `Numbering` says which number it has.
-#[derive(Drop)]
 pub struct Actor<L: Ledger + Named, A: Allocator = Global> {
     pub(crate) number: u32,
     pub(crate) last: u64,
@@ -25,6 +24,19 @@ pub struct Actor<L: Ledger + Named, A: Allocator = Global> {
     pub(crate) receipts: Trail<Receipt<A>>,
     pub(crate) seen: Beginning<Step<A>, L>,
     pub(crate) share: Share<L>,
+}
+
+impl<L: Ledger + Named, A: Allocator> Drop for Actor<L, A> {
+    fn drop(self) {
+        let Actor {
+            number: _,
+            last: _,
+            tally: _,
+            receipts: _,
+            seen: _,
+            share: _,
+        } = self;
+    }
 }
 
 impl<L: Ledger + Named, A: Allocator> Model for Actor<L, A> {
@@ -86,10 +98,12 @@ impl<L: Ledger + Named, A: Allocator> Actor<L, A> {
         ensures share { (result.2.parts ≡ 1) × (result.2.amount ≡ length self.receipts) }
     {
         let Actor {
+            number: _,
+            last: _,
+            tally: _,
             receipts,
             seen,
             share,
-            ..
         } = self;
         (receipts, seen, share)
     }

@@ -48,11 +48,20 @@ impl<A: Allocator> Unopened<A> {
 }
 
 /// All steps of a run, in order. It takes no memory.
-#[derive(Drop)]
 pub struct Annals<L: Ledger + Named, A: Allocator = Global> {
     book: Book<L>,
     pub(crate) steps: Growing<Step<A>, L>,
     seen: Beginning<Step<A>, L>,
+}
+
+impl<L: Ledger + Named, A: Allocator> Drop for Annals<L, A> {
+    fn drop(self) {
+        let Annals {
+            book: _,
+            steps: _,
+            seen: _,
+        } = self;
+    }
 }
 
 impl<L: Ledger + Named, A: Allocator> Model for Annals<L, A> {

@@ -7,12 +7,17 @@ ghost use Rattle.gn_comments.specs.Comments.Place.{start};
 use std::alloc::{AllocError, Global};
 
 /// Whole lines that begin with `#`.
-#[derive(Drop)]
 pub struct Comments {
     bytes: Vec<u8, Global>,
     line: Vec<u8, Global>,
     ghost bare: { bare start bytes.items ≡ [] },
     ghost whole: { place_behind start bytes.items ≡ start },
+}
+
+impl Drop for Comments {
+    fn drop(self) {
+        let Comments { bytes: _, line: _ } = self;
+    }
 }
 
 impl Comments {

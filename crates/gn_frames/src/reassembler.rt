@@ -26,11 +26,21 @@ pub enum FeedRefusal {
 }
 
 /// Takes the pieces of a stream, and gives its descriptors.
-#[derive(Debug, Drop)]
+#[derive(Debug)]
 pub struct Reassembler<A: Allocator = Global> {
     alloc: A,
     held: BytesMut<A>,
     ended: bool,
+}
+
+impl<A: Allocator> Drop for Reassembler<A> {
+    fn drop(self) {
+        let Reassembler {
+            alloc: _,
+            held: _,
+            ended: _,
+        } = self;
+    }
 }
 
 impl<A: Allocator> Model for Reassembler<A> {

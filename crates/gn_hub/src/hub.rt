@@ -36,7 +36,6 @@ use std::sync::ledger::Ledger;
 
 /// The router that the threads of a run share, the annals of its steps, what is known of the links, each at its slot, whether more
 /// links may come, whether all that came call, and whether the run has failed. The annals are the router's history.
-#[derive(Drop)]
 pub struct Hub<C: RouterCore<A>, L: Ledger + Named, A: Allocator + Copy = Global> {
     core: C,
     annals: Annals<L, A>,
@@ -44,6 +43,19 @@ pub struct Hub<C: RouterCore<A>, L: Ledger + Named, A: Allocator + Copy = Global
     is_open: bool,
     all_call: bool,
     failed: bool,
+}
+
+impl<C: RouterCore<A> + Drop, L: Ledger + Named, A: Allocator + Copy> Drop for Hub<C, L, A> {
+    fn drop(self) {
+        let Hub {
+            core: _,
+            annals: _,
+            slots: _,
+            is_open: _,
+            all_call: _,
+            failed: _,
+        } = self;
+    }
 }
 
 impl<C: RouterCore<A>, L: Ledger + Named, A: Allocator + Copy> Model for Hub<C, L, A> {
@@ -411,7 +423,15 @@ impl<C: RouterCore<A>, L: Ledger + Named, A: Allocator + Copy> Hub<C, L, A> {
         ensures settings { C.settings result ≡ self.settings }
         ensures steps { C.steps result ≡ self.steps }
     {
-        self.core
+        let Hub {
+            core,
+            annals: _,
+            slots: _,
+            is_open: _,
+            all_call: _,
+            failed: _,
+        } = self;
+        core
     }
 
     /// What was told to be idle was so: after that many of the steps nothing was in flight.

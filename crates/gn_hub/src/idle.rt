@@ -10,10 +10,15 @@ use std::marker::Model;
 use std::sync::ledger::Ledger;
 
 /// Says that nothing was in flight after so many steps. Only the hub makes one, so that who has it has looked.
-#[derive(Drop)]
 pub struct Idle<L: Ledger + Named, A: Allocator = Global> {
     at: u64,
     seen: Beginning<Step<A>, L>,
+}
+
+impl<L: Ledger + Named, A: Allocator> Drop for Idle<L, A> {
+    fn drop(self) {
+        let Idle { at: _, seen: _ } = self;
+    }
 }
 
 impl<L: Ledger + Named, A: Allocator> Model for Idle<L, A> {
@@ -50,6 +55,7 @@ impl<L: Ledger + Named, A: Allocator> Idle<L, A> {
         ensures at { length result.items ≡ self }
         ensures idle { (length (flying (reverse result.items)) == 0) ≡ true }
     {
-        self.seen
+        let Idle { at: _, seen } = self;
+        seen
     }
 }

@@ -45,11 +45,20 @@ const LOOKS: u32 = 8;
 ///
 /// Threads that try the lock write its word. The hub stands on cache lines of its own, so that they don't take one away from
 /// who has the lock.
-#[derive(Drop)]
 pub struct Service<C: RouterCore<A> + Drop, L: Ledger + Named, A: Allocator + Copy = Global> {
     held: Mutex<CachePadded<Held<C, L, A>>>,
     waiters: Waiters,
     room: Room,
+}
+
+impl<C: RouterCore<A> + Drop, L: Ledger + Named, A: Allocator + Copy> Drop for Service<C, L, A> {
+    fn drop(self) {
+        let Service {
+            held: _,
+            waiters: _,
+            room: _,
+        } = self;
+    }
 }
 
 impl<C: RouterCore<A> + Drop, L: Ledger + Named, A: Allocator + Copy> Service<C, L, A> {
@@ -378,7 +387,11 @@ impl<C: RouterCore<A> + Drop, L: Ledger + Named, A: Allocator + Copy> Service<C,
 
     /// The hub, without its lock.
     pub fn into_hub(self) -> Hub<C, L, A> {
-        let Service { held, .. } = self;
+        let Service {
+            held,
+            waiters: _,
+            room: _,
+        } = self;
         let Held { hub, .. } = held.into_inner().into_inner();
         hub
     }

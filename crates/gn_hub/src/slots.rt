@@ -12,11 +12,20 @@ use std::marker::Model;
 
 /// What is known of the links of a run, each at its slot, and how many of their readers aren't done: of the links that don't call, and of
 /// those that do.
-#[derive(Drop)]
 pub(crate) struct Slots<A: Allocator> {
     marks: Vec<Mark, A>,
     uncalled: usize,
     called: usize,
+}
+
+impl<A: Allocator> Drop for Slots<A> {
+    fn drop(self) {
+        let Slots {
+            marks: _,
+            uncalled: _,
+            called: _,
+        } = self;
+    }
 }
 
 impl<A: Allocator> Model for Slots<A> {

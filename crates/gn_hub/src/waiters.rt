@@ -10,10 +10,18 @@ const BITS: usize = 64;
 
 /// The condition variables of the threads that wait for a change: one for each place of writers, and one for all doors. The hub's lock
 /// has who sleeps, and who has made a change lets it go before it wakes anybody.
-#[derive(Drop)]
 pub(crate) struct Waiters {
     writers: [[Condvar; BITS]; WORDS],
     doors: Condvar,
+}
+
+impl Drop for Waiters {
+    fn drop(self) {
+        let Waiters {
+            writers: _,
+            doors: _,
+        } = self;
+    }
 }
 
 impl Waiters {

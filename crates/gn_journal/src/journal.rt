@@ -14,13 +14,22 @@ use std::marker::PhantomData;
 
 /// What a router gives its steps to, so that a scribe writes them: nothing is kept of those that it has read. Its ring is the one
 /// that `B` names.
-#[derive(Drop)]
 pub struct Journal<B: Naming<A>, A: Allocator = Global> {
     pub steps: Producer<Step<A>, A>,
     count: u64,
     of: PhantomData<B>,
     pub ghost counted: { count ≡ length (sent steps) },
     pub ghost here: { B.ring ≡ Some (name_of steps.end) },
+}
+
+impl<B: Naming<A>, A: Allocator> Drop for Journal<B, A> {
+    fn drop(self) {
+        let Journal {
+            steps: _,
+            count: _,
+            of: _,
+        } = self;
+    }
 }
 
 impl<B: Naming<A>, A: Allocator> Journal<B, A> {

@@ -26,10 +26,18 @@ type Ring<A> = HeapCircularBuffer<(Key, u32), A>;
 /// The keys that were kept last, newest first, each with the connection that it came from. Keys are hashed with a fixed
 /// seed. The ring takes its memory at once, 24 bytes for each key that may be kept (1,572,864 bytes for 65,536); the
 /// hashed table grows as keys come.
-#[derive(Drop)]
 pub struct SeenTable<A: Allocator + Copy = Global> {
     sources: Sources<A>,
     ring: Ring<A>,
+}
+
+impl<A: Allocator + Copy> Drop for SeenTable<A> {
+    fn drop(self) {
+        let SeenTable {
+            sources: _,
+            ring: _,
+        } = self;
+    }
 }
 
 impl<A: Allocator + Copy> Model for SeenTable<A> {

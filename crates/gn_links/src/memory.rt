@@ -13,13 +13,24 @@ use std::marker::Model;
 use std::snapshot::Snapshot;
 
 /// A link whose reader gives bytes that were laid down beforehand, and whose writer collects what it is given.
-#[derive(Drop)]
 pub struct MemoryLink<A: Allocator + Copy = Global> {
     role: Role,
     bytes: Vec<u8, A>,
     piece: usize,
     read: Option<u32>,
     write: Option<u32>,
+}
+
+impl<A: Allocator + Copy> Drop for MemoryLink<A> {
+    fn drop(self) {
+        let MemoryLink {
+            role: _,
+            bytes: _,
+            piece: _,
+            read: _,
+            write: _,
+        } = self;
+    }
 }
 
 impl<A: Allocator + Copy> Model for MemoryLink<A> {
@@ -63,7 +74,8 @@ impl<A: Allocator + Copy> MemoryLink<A> {
             role,
             bytes,
             piece,
-            ..
+            read: _,
+            write: _,
         } = self;
         MemoryLink {
             role,

@@ -12,7 +12,6 @@ use std::snapshot::Snapshot;
 use std::sync::Wait;
 
 /// Gives the bytes of a memory link, in order.
-#[derive(Drop)]
 pub struct MemoryReader<A: Allocator + Copy = Global> {
     link: Snapshot<MemoryLink<A>>,
     bytes: Vec<u8, A>,
@@ -24,6 +23,23 @@ pub struct MemoryReader<A: Allocator + Copy = Global> {
     pieces: u64,
     has_ended: bool,
     is_finished: bool,
+}
+
+impl<A: Allocator + Copy> Drop for MemoryReader<A> {
+    fn drop(self) {
+        let MemoryReader {
+            link: _,
+            bytes: _,
+            given: _,
+            piece: _,
+            fails_from: _,
+            calls: _,
+            failures: _,
+            pieces: _,
+            has_ended: _,
+            is_finished: _,
+        } = self;
+    }
 }
 
 impl<A: Allocator + Copy> Model for MemoryReader<A> {

@@ -13,7 +13,6 @@ use std::snapshot::Snapshot;
 use std::sync::Wait;
 
 /// Collects the bytes that a memory link is given.
-#[derive(Drop)]
 pub struct MemoryWriter<A: Allocator + Copy = Global> {
     link: Snapshot<MemoryLink<A>>,
     bytes: Vec<u8, A>,
@@ -21,6 +20,19 @@ pub struct MemoryWriter<A: Allocator + Copy = Global> {
     calls: u32,
     failures: u64,
     is_finished: bool,
+}
+
+impl<A: Allocator + Copy> Drop for MemoryWriter<A> {
+    fn drop(self) {
+        let MemoryWriter {
+            link: _,
+            bytes: _,
+            fails_from: _,
+            calls: _,
+            failures: _,
+            is_finished: _,
+        } = self;
+    }
 }
 
 impl<A: Allocator + Copy> Model for MemoryWriter<A> {
@@ -68,7 +80,15 @@ impl<A: Allocator + Copy> MemoryWriter<A> {
     pub fn into_bytes(self) -> Vec<u8, A>
         ensures { result.items ≡ self.bytes }
     {
-        self.bytes
+        let MemoryWriter {
+            link: _,
+            bytes,
+            fails_from: _,
+            calls: _,
+            failures: _,
+            is_finished: _,
+        } = self;
+        bytes
     }
 }
 

@@ -33,13 +33,23 @@ const CONFIG: Config = Config {
 };
 
 /// A port where one caller after another is answered.
-#[derive(Drop)]
 pub struct Desk {
     listener: TcpListener,
     stopper: ListenerStopper,
     /// What keeps a caller from naming fields that are slow to find.
     keys: RandomState,
     is_over: AtomicBool,
+}
+
+impl Drop for Desk {
+    fn drop(self) {
+        let Desk {
+            listener: _,
+            stopper: _,
+            keys: _,
+            is_over: _,
+        } = self;
+    }
 }
 
 impl Desk {

@@ -10,7 +10,6 @@ use std::time::{Clock, SystemTime, UNIX_EPOCH};
 const TRIES: u32 = 64;
 
 /// What is counted of a run and its history. Nobody waits here: who counts writes on, and who looks while it does looks again.
-#[derive(Drop)]
 pub struct Meters {
     /// How often the counts of the history were begun and done to be written: an odd number while they are.
     turns: AtomicU64,
@@ -22,6 +21,21 @@ pub struct Meters {
     links: AtomicU64,
     most: u32,
     since: u64,
+}
+
+impl Drop for Meters {
+    fn drop(self) {
+        let Meters {
+            turns: _,
+            counts: _,
+            before: _,
+            bytes: _,
+            made: _,
+            links: _,
+            most: _,
+            since: _,
+        } = self;
+    }
 }
 
 /// The seconds since 1970; 0 where the clock can't be read.

@@ -10,10 +10,15 @@ use std::alloc::{AllocError, Global};
 
 /// The names of the counters, in the order in which `gn show --stats` prints them: they are read off its line, so that they stand in
 /// one table alone.
-#[derive(Drop)]
 pub struct Names {
     names: Vec<Vec<u8>>,
     ghost all: { map (λ name. name.items) names.items ≡ counter_names },
+}
+
+impl Drop for Names {
+    fn drop(self) {
+        let Names { names: _ } = self;
+    }
 }
 
 /// A text of these bytes. An `Err` is out of memory.

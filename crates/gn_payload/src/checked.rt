@@ -20,10 +20,19 @@ pub enum Verdict {
 }
 
 /// A descriptor with its verdict. Checking takes no memory.
-#[derive(Debug, Drop)]
+#[derive(Debug)]
 pub struct Checked<A: Allocator = Global> {
     descriptor: Descriptor<A>,
     verdict: Verdict,
+}
+
+impl<A: Allocator> Drop for Checked<A> {
+    fn drop(self) {
+        let Checked {
+            descriptor: _,
+            verdict: _,
+        } = self;
+    }
 }
 
 impl<A: Allocator> Model for Checked<A> {
@@ -79,6 +88,10 @@ impl<A: Allocator> Checked<A> {
     pub fn into_descriptor(self) -> Descriptor<A>
         ensures { result ≡ self }
     {
-        self.descriptor
+        let Checked {
+            descriptor,
+            verdict: _,
+        } = self;
+        descriptor
     }
 }

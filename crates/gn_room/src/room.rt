@@ -12,7 +12,6 @@ const TRIES: u32 = 32;
 /// for it, and who writes them until there is one.
 ///
 /// The two counts are written by different threads, and stand on cache lines of their own.
-#[derive(Drop)]
 pub struct Room {
     most: u64,
     made: CachePadded<AtomicU64>,
@@ -23,6 +22,22 @@ pub struct Room {
     is_shut: AtomicBool,
     door: Mutex<()>,
     changed: Condvar,
+}
+
+impl Drop for Room {
+    fn drop(self) {
+        let Room {
+            most: _,
+            made: _,
+            taken: _,
+            is_awaited: _,
+            is_idle: _,
+            is_over: _,
+            is_shut: _,
+            door: _,
+            changed: _,
+        } = self;
+    }
 }
 
 impl Room {

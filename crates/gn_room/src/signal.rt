@@ -9,11 +9,20 @@ const SLOTS: usize = 256;
 
 /// Which bodies of which slots have ended, for who joins them, and that something else has happened that it is to look at. No contract
 /// rests on it: where it is wrong, a join waits.
-#[derive(Drop)]
 pub struct Signal {
     ended: [AtomicU32; SLOTS],
     raised: Mutex<u64>,
     changed: Condvar,
+}
+
+impl Drop for Signal {
+    fn drop(self) {
+        let Signal {
+            ended: _,
+            raised: _,
+            changed: _,
+        } = self;
+    }
 }
 
 impl Signal {

@@ -16,9 +16,15 @@ pub struct Sending<A: Allocator = Global> {
 }
 
 /// The packets that a reply sends, in order.
-#[derive(Debug, Drop)]
+#[derive(Debug)]
 pub struct Sends<A: Allocator = Global> {
     items: Vec<Sending<A>, A>,
+}
+
+impl<A: Allocator> Drop for Sends<A> {
+    fn drop(self) {
+        let Sends { items: _ } = self;
+    }
 }
 
 impl<A: Allocator> Sending<A> {
@@ -55,7 +61,8 @@ impl<A: Allocator> Sends<A> {
     pub fn into_vec(self) -> Vec<Sending<A>, A>
         ensures { result.items ≡ self }
     {
-        self.items
+        let Sends { items } = self;
+        items
     }
 
     /// The packets, in order.

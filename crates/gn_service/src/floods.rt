@@ -72,10 +72,18 @@ impl Crowd {
 }
 
 /// For how long a link may flood a run, and what is known of the links.
-#[derive(Drop)]
 pub(crate) struct Floods {
     limit: Duration,
     crowds: [Crowd; SLOTS],
+}
+
+impl Drop for Floods {
+    fn drop(self) {
+        let Floods {
+            limit: _,
+            crowds: _,
+        } = self;
+    }
 }
 
 impl Floods {

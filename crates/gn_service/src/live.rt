@@ -71,10 +71,15 @@ fn has_come(at: Duration, now: Option<Duration>) -> bool {
 }
 
 /// The links of a run that have come and not ended, and when all of them are shut. It has as many slots as there were such links at once.
-#[derive(Drop)]
 pub(crate) struct LiveLinks<A: Allocator = Global> {
     links: Vec<Option<Live>, A>,
     until: Option<Duration>,
+}
+
+impl<A: Allocator> Drop for LiveLinks<A> {
+    fn drop(self) {
+        let LiveLinks { links: _, until: _ } = self;
+    }
 }
 
 impl<A: Allocator> LiveLinks<A> {

@@ -16,7 +16,7 @@ const PIECE: u64 = 179;
 /// is there, up to what their queues hold; one that is still to come counts as one for each link that may be connected by then.
 ///
 /// A link is there before it can connect, and until both of its threads have ended.
-#[derive(Debug, Drop)]
+#[derive(Debug)]
 pub(crate) struct Owed {
     /// How many steps the run may make.
     most: u64,
@@ -35,6 +35,22 @@ pub(crate) struct Owed {
     /// The descriptors that went to their routes.
     entered: AtomicI64,
     waiting: AtomicI64,
+}
+
+impl Drop for Owed {
+    fn drop(self) {
+        let Owed {
+            most: _,
+            crew: _,
+            queue: _,
+            links: _,
+            steps: _,
+            in_flight: _,
+            present: _,
+            entered: _,
+            waiting: _,
+        } = self;
+    }
 }
 
 /// How near a run is to its last step.

@@ -49,10 +49,18 @@ impl<'s, A: Allocator> Lists<Unkept<LinkAccount<TcpReader<'s>, TcpWriter, A>>, S
 
 /// What a run over TCP did, which only contracts see: its history, and what the sockets of its links gave and took. It keeps none of
 /// that. A run that has an account makes it, and nobody else does.
-#[derive(Drop)]
 pub struct Ran<A: Allocator = Global> {
     history: Snapshot<Unkept<Step<A>>>,
     sockets: Trail<Seen>,
+}
+
+impl<A: Allocator> Drop for Ran<A> {
+    fn drop(self) {
+        let Ran {
+            history: _,
+            sockets: _,
+        } = self;
+    }
 }
 
 impl<A: Allocator> Model for Ran<A> {

@@ -16,7 +16,7 @@ use std::time::Duration;
 /// A run that is stopped reads no more, waits for no caller that is still missing, and calls nobody again. What it admitted is
 /// routed and written, so that it answers as a run does that its peers ended; a peer that hasn't taken all of it once the run's
 /// grace is over is let go. Each is for one run.
-#[derive(Debug, Drop)]
+#[derive(Debug)]
 pub struct Stop {
     limit: Option<Duration>,
     is_early: bool,
@@ -24,6 +24,18 @@ pub struct Stop {
     /// What has the run's readers read little at a time.
     brake: Brake,
     waiter: Parker,
+}
+
+impl Drop for Stop {
+    fn drop(self) {
+        let Stop {
+            limit: _,
+            is_early: _,
+            is_set: _,
+            brake: _,
+            waiter: _,
+        } = self;
+    }
 }
 
 impl Model for Stop {

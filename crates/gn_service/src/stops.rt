@@ -16,7 +16,6 @@ use std::sync::{Mutex, Wait};
 use std::time::{Clock, Duration, Instant};
 
 /// The links of a run, its listener, and whether the run is over.
-#[derive(Drop)]
 pub(crate) struct Stops<'a, A: Allocator = Global> {
     pub stop: &'a Stop,
     /// How long a peer that is let go, or one of a run that is stopped, has for what is written to it.
@@ -41,6 +40,27 @@ pub(crate) struct Stops<'a, A: Allocator = Global> {
     /// Whether memory was refused for a called link.
     lacks_memory: AtomicBool,
     is_over: AtomicBool,
+}
+
+impl<'a, A: Allocator> Drop for Stops<'a, A> {
+    fn drop(self) {
+        let Stops {
+            stop: _,
+            grace: _,
+            begun: _,
+            listener: _,
+            links: _,
+            owed: _,
+            floods: _,
+            callees: _,
+            calls: _,
+            asked: _,
+            has_failed: _,
+            uncalled: _,
+            lacks_memory: _,
+            is_over: _,
+        } = self;
+    }
 }
 
 /// When so much time has passed after now, where both are known.

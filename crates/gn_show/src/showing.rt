@@ -27,7 +27,6 @@ use gn_stream::{Due, Entry, LineReader, next_entry};
 use std::alloc::{AllocError, Global};
 
 /// What is kept between two lines of a history.
-#[derive(Drop)]
 pub(crate) struct Showing {
     /// Which line comes next.
     due: Due,
@@ -41,6 +40,19 @@ pub(crate) struct Showing {
     index: u32,
     /// What is shown and waits to be written.
     block: Block,
+}
+
+impl Drop for Showing {
+    fn drop(self) {
+        let Showing {
+            due: _,
+            time: _,
+            flight: _,
+            rows: _,
+            index: _,
+            block: _,
+        } = self;
+    }
 }
 
 /// What is shown of a line that says no step: the names of columns, where steps come next.

@@ -14,7 +14,6 @@ use std::sync::Wait;
 
 /// Reads from a socket. It gives its handle of the socket up at the end of the bytes, at a read that fails, and where it is
 /// finished: once both halves have, the peer is let go.
-#[derive(Drop)]
 pub struct TcpReader<'s> {
     handle: Handle,
     peer: SocketAddr,
@@ -25,6 +24,21 @@ pub struct TcpReader<'s> {
     has_ended: bool,
     /// The bytes that its reads gave.
     told: Told,
+}
+
+impl<'s> Drop for TcpReader<'s> {
+    fn drop(self) {
+        let TcpReader {
+            handle: _,
+            peer: _,
+            origin: _,
+            patience: _,
+            failures: _,
+            pieces: _,
+            has_ended: _,
+            told: _,
+        } = self;
+    }
 }
 
 impl<'s> Model for TcpReader<'s> {

@@ -14,7 +14,6 @@ use std::sync::Wait;
 
 /// Writes to a socket. Where it is finished it shuts both directions, or that of a peer to which something is still owed alone,
 /// and gives its handle of the socket up: once both halves have, the peer is let go.
-#[derive(Drop)]
 pub struct TcpWriter {
     handle: Handle,
     origin: TcpOrigin,
@@ -25,6 +24,20 @@ pub struct TcpWriter {
     is_stuck: bool,
     /// The bytes that its writes took.
     told: Told,
+}
+
+impl Drop for TcpWriter {
+    fn drop(self) {
+        let TcpWriter {
+            handle: _,
+            origin: _,
+            lingers: _,
+            has_written: _,
+            failures: _,
+            is_stuck: _,
+            told: _,
+        } = self;
+    }
 }
 
 impl Model for TcpWriter {

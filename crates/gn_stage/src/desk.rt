@@ -12,9 +12,14 @@ use std::marker::Model;
 use std::sync::Wait;
 
 /// Holds what is left of a stage while its ends are out.
-#[derive(Drop)]
 pub struct Desk<S: Site, A: Allocator = Global> {
     pub(crate) reception: Reception<S, A>,
+}
+
+impl<S: Site, A: Allocator> Drop for Desk<S, A> {
+    fn drop(self) {
+        let Desk { reception: _ } = self;
+    }
 }
 
 /// The fault, and all that was handed in.

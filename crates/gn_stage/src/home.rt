@@ -36,12 +36,22 @@ impl Direction for Taking {
 }
 
 /// What an end has seen. `count` is how many jobs, in a u64.
-#[derive(Drop)]
 pub struct Home<D: Direction, S: Site, A: Allocator = Global> {
     number: u32,
     count: u64,
     pass: Pass<Job<A>, View>,
     of: PhantomData<(D, S)>,
+}
+
+impl<D: Direction, S: Site, A: Allocator> Drop for Home<D, S, A> {
+    fn drop(self) {
+        let Home {
+            number: _,
+            count: _,
+            pass: _,
+            of: _,
+        } = self;
+    }
 }
 
 /// What an intake put, in order.
@@ -103,7 +113,13 @@ impl<D: Direction, S: Site, A: Allocator> Home<D, S, A> {
         ensures end { (knows result).end ≡ self }
         ensures role { (knows result).role ≡ D.role }
     {
-        self.pass
+        let Home {
+            number: _,
+            count: _,
+            pass,
+            of: _,
+        } = self;
+        pass
     }
 }
 

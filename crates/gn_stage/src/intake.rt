@@ -15,7 +15,6 @@ use std::marker::Model;
 use std::sync::Wait;
 
 /// Puts jobs into the queue of a stage. Once every intake has finished, or was dropped, the outlets end.
-#[derive(Drop)]
 pub struct Intake<S: Site, A: Allocator = Global> {
     sender: RuledSender<Job<A>, View, Law, A>,
     /// A token for each job that is queued or about to be: it waits while there are as many as the queue has room for.
@@ -23,6 +22,17 @@ pub struct Intake<S: Site, A: Allocator = Global> {
     /// A token for each job that is there to be taken.
     ready: Sender<(), A>,
     home: IntakeHome<S, A>,
+}
+
+impl<S: Site, A: Allocator> Drop for Intake<S, A> {
+    fn drop(self) {
+        let Intake {
+            sender: _,
+            room: _,
+            ready: _,
+            home: _,
+        } = self;
+    }
 }
 
 impl<S: Site, A: Allocator> Model for Intake<S, A> {
@@ -77,6 +87,12 @@ impl<S: Site, A: Allocator> Intake<S, A> {
     pub fn finish(self) -> IntakeHome<S, A>
         ensures { result ≡ self }
     {
-        self.home
+        let Intake {
+            sender: _,
+            room: _,
+            ready: _,
+            home,
+        } = self;
+        home
     }
 }

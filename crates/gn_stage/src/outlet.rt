@@ -16,7 +16,6 @@ use std::marker::Model;
 use std::sync::Wait;
 
 /// Takes jobs out of the queue of a stage. Once every outlet has finished, or was dropped, each put hands its job back.
-#[derive(Drop)]
 pub struct Outlet<S: Site, A: Allocator = Global> {
     receiver: RuledReceiver<Job<A>, View, Law, A>,
     /// The other end of an intake's `room`.
@@ -24,6 +23,17 @@ pub struct Outlet<S: Site, A: Allocator = Global> {
     /// The other end of an intake's `ready`.
     ready: Receiver<(), A>,
     home: OutletHome<S, A>,
+}
+
+impl<S: Site, A: Allocator> Drop for Outlet<S, A> {
+    fn drop(self) {
+        let Outlet {
+            receiver: _,
+            room: _,
+            ready: _,
+            home: _,
+        } = self;
+    }
 }
 
 impl<S: Site, A: Allocator> Model for Outlet<S, A> {
@@ -102,6 +112,12 @@ impl<S: Site, A: Allocator> Outlet<S, A> {
     pub fn finish(self) -> OutletHome<S, A>
         ensures { result ≡ self }
     {
-        self.home
+        let Outlet {
+            receiver: _,
+            room: _,
+            ready: _,
+            home,
+        } = self;
+        home
     }
 }

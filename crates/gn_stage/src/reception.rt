@@ -18,17 +18,27 @@ use std::alloc::{AllocError, Allocator, Global};
 use std::marker::{Model, PhantomData};
 
 /// The tokens' halves that each new intake gets a copy of.
-#[derive(Drop)]
 pub(crate) struct PutTokens<A: Allocator> {
     pub(crate) room: Sender<(), A>,
     pub(crate) ready: Sender<(), A>,
 }
 
+impl<A: Allocator> Drop for PutTokens<A> {
+    fn drop(self) {
+        let PutTokens { room: _, ready: _ } = self;
+    }
+}
+
 /// The tokens' halves that each new outlet gets a copy of.
-#[derive(Drop)]
 pub(crate) struct TakeTokens<A: Allocator> {
     pub(crate) room: Receiver<(), A>,
     pub(crate) ready: Receiver<(), A>,
+}
+
+impl<A: Allocator> Drop for TakeTokens<A> {
+    fn drop(self) {
+        let TakeTokens { room: _, ready: _ } = self;
+    }
 }
 
 /// Makes the intakes of a stage as they are wanted, and takes them home as they finish. Of those that are home it keeps how

@@ -16,7 +16,6 @@ use std::alloc::{AllocError, Allocator, Global};
 use std::marker::Model;
 
 /// A stage that was opened and has no ends yet.
-#[derive(Drop)]
 pub struct Stage<A: Allocator = Global> {
     sender: RuledSender<Job<A>, View, Law, A>,
     receiver: RuledReceiver<Job<A>, View, Law, A>,
@@ -24,6 +23,19 @@ pub struct Stage<A: Allocator = Global> {
     put: PutTokens<A>,
     take: TakeTokens<A>,
     capacity: usize,
+}
+
+impl<A: Allocator> Drop for Stage<A> {
+    fn drop(self) {
+        let Stage {
+            sender: _,
+            receiver: _,
+            pass: _,
+            put: _,
+            take: _,
+            capacity: _,
+        } = self;
+    }
 }
 
 impl<A: Allocator> Model for Stage<A> {

@@ -27,10 +27,18 @@ use std::sync::ledger::Ledger;
 use std::thread::Threads;
 
 /// The workers of a run whose threads run, and whether one couldn't be started.
-#[derive(Drop)]
 pub(crate) struct Crew<B: Site + Ledger + Named, A: Allocator = Global> {
     pub handles: Vec<WorkerHandle<B, A>, A>,
     pub is_lost: bool,
+}
+
+impl<B: Site + Ledger + Named, A: Allocator> Drop for Crew<B, A> {
+    fn drop(self) {
+        let Crew {
+            handles: _,
+            is_lost: _,
+        } = self;
+    }
 }
 
 /// What they leave once they are joined: their actors and their ends of the stage, whether there was no memory for these, and the fault of

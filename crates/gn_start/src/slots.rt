@@ -45,7 +45,6 @@ impl<Rd: LinkReader, W: LinkWriter, B: Site + Ledger + Limited + Named, A: Alloc
 }
 
 /// The slots of a run, as many as links may be there at once. Contracts see how the link of each stands.
-#[derive(Drop)]
 pub(crate) struct Slots<
     Rd: LinkReader,
     W: LinkWriter,
@@ -53,6 +52,13 @@ pub(crate) struct Slots<
     A: Allocator = Global,
 > {
     all: Vec<Option<LiveLink<Rd, W, B, A>>, A>,
+}
+
+impl<Rd: LinkReader, W: LinkWriter, B: Site + Ledger + Limited + Named, A: Allocator> Drop
+    for Slots<Rd, W, B, A> {
+    fn drop(self) {
+        let Slots { all: _ } = self;
+    }
 }
 
 impl<Rd: LinkReader, W: LinkWriter, B: Site + Ledger + Limited + Named, A: Allocator> Model

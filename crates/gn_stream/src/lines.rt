@@ -21,7 +21,6 @@ const LINE_LIMIT: usize = 67_108_864;
 
 /// Reads the lines of a source, one after another. No more is held than a piece of the source, at most 16,384 bytes, and
 /// the line that was given last. One reader is for one source.
-#[derive(Drop)]
 pub struct LineReader<A: Allocator = Global> {
     piece: Piece<A>,
     /// Whether the source has no more.
@@ -32,6 +31,19 @@ pub struct LineReader<A: Allocator = Global> {
     is_copied: bool,
     copied: Vec<u8, A>,
     ending: Ending,
+}
+
+impl<A: Allocator> Drop for LineReader<A> {
+    fn drop(self) {
+        let LineReader {
+            piece: _,
+            is_ended: _,
+            next: _,
+            is_copied: _,
+            copied: _,
+            ending: _,
+        } = self;
+    }
 }
 
 impl<A: Allocator> Model for LineReader<A> {

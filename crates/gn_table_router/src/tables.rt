@@ -6,7 +6,6 @@ use gn_tables::{Flights, Neighbours, ServentTable};
 use std::alloc::{Allocator, Global};
 
 /// What a router remembers, and how much it has counted.
-#[derive(Drop)]
 pub(crate) struct Tables<A: Allocator + Copy = Global> {
     pub seen: SeenTable<A>,
     pub servents: ServentTable<A>,
@@ -17,4 +16,18 @@ pub(crate) struct Tables<A: Allocator + Copy = Global> {
     /// The next ticket.
     pub admitted: Ticket,
     pub stats: Stats,
+}
+
+impl<A: Allocator + Copy> Drop for Tables<A> {
+    fn drop(self) {
+        let Tables {
+            seen: _,
+            servents: _,
+            neighbours: _,
+            flights: _,
+            connected: _,
+            admitted: _,
+            stats: _,
+        } = self;
+    }
 }

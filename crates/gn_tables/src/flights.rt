@@ -79,11 +79,20 @@ fn take_out<A: Allocator + Copy>(
 
 /// The descriptors in flight, by ticket, and how many of them each connection sent, whether or not it is still there. Tickets and
 /// connections are hashed with a fixed seed. It grows as descriptors are added.
-#[derive(Drop)]
 pub struct Flights<A: Allocator + Copy = Global> {
     most: u32,
     flights: ByTicket<A>,
     counts: Counts<A>,
+}
+
+impl<A: Allocator + Copy> Drop for Flights<A> {
+    fn drop(self) {
+        let Flights {
+            most: _,
+            flights: _,
+            counts: _,
+        } = self;
+    }
 }
 
 impl<A: Allocator + Copy> Model for Flights<A> {

@@ -9,11 +9,16 @@ use gn_trail::Trail;
 use std::alloc::{AllocError, Allocator, Global};
 
 /// Lets go of each step, and counts them. What they were only proofs read.
-#[derive(Drop)]
 pub struct Forgetful<A: Allocator = Global> {
     count: u64,
     trail: Trail<Step<A>>,
     ghost counted: { count ≡ length trail.items },
+}
+
+impl<A: Allocator> Drop for Forgetful<A> {
+    fn drop(self) {
+        let Forgetful { count: _, trail: _ } = self;
+    }
 }
 
 impl<A: Allocator> Forgetful<A> {

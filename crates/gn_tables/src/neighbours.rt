@@ -19,12 +19,22 @@ type Row<A> = (u32, Output<A>);
 /// The live connections, ascending, each with the packets that wait for it, the first to go first. A connection is found by
 /// binary search. Its ring takes its memory at once when it is added, 64 bytes for each packet that may wait: 262,144 bytes for
 /// 4,096 packets, and 67,108,864 bytes for 256 connections of these.
-#[derive(Drop)]
 pub struct Neighbours<A: Allocator + Copy = Global> {
     alloc: A,
     most: u32,
     room: u32,
     rows: Vec<Row<A>, A>,
+}
+
+impl<A: Allocator + Copy> Drop for Neighbours<A> {
+    fn drop(self) {
+        let Neighbours {
+            alloc: _,
+            most: _,
+            room: _,
+            rows: _,
+        } = self;
+    }
 }
 
 impl<A: Allocator + Copy> Model for Neighbours<A> {

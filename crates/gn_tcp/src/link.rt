@@ -30,7 +30,6 @@ pub fn listen<N: Net<Listener = TcpListener, Stream = TcpStream>>(
 }
 
 /// A connected socket, how the link over it begins, and where it comes from; or a link whose peer is still called, or never came.
-#[derive(Drop)]
 pub struct TcpLink<'s> {
     socket: Socket,
     /// A second handle of the socket, where it was taken before the link is split.
@@ -39,6 +38,19 @@ pub struct TcpLink<'s> {
     role: Role,
     origin: TcpOrigin,
     ways: Ways<'s>,
+}
+
+impl<'s> Drop for TcpLink<'s> {
+    fn drop(self) {
+        let TcpLink {
+            socket: _,
+            other: _,
+            peer: _,
+            role: _,
+            origin: _,
+            ways: _,
+        } = self;
+    }
 }
 
 impl<'s> Model for TcpLink<'s> {

@@ -11,13 +11,23 @@ const LEAST: usize = 23;
 
 /// What has the readers of a run read little at a time once it is set, and how many descriptors they have in hand at most: those that
 /// their last reads may have completed and that weren't offered yet, or those that their next reads may complete.
-#[derive(Debug, Drop)]
+#[derive(Debug)]
 pub struct Brake {
     is_set: AtomicBool,
     /// The sum of those of all slots; below 0 for a moment at most.
     in_hand: AtomicI64,
     /// Those of the link in each slot. The link's reader alone changes them.
     held: [AtomicU32; SLOTS],
+}
+
+impl Drop for Brake {
+    fn drop(self) {
+        let Brake {
+            is_set: _,
+            in_hand: _,
+            held: _,
+        } = self;
+    }
 }
 
 impl Brake {

@@ -18,10 +18,18 @@ struct Answer {
 }
 
 /// A call of a peer, for whose answer both halves of its link wait.
-#[derive(Drop)]
 pub struct Call {
     answer: Mutex<Answer>,
     answered: Condvar,
+}
+
+impl Drop for Call {
+    fn drop(self) {
+        let Call {
+            answer: _,
+            answered: _,
+        } = self;
+    }
 }
 
 impl Call {

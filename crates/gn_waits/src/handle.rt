@@ -16,12 +16,21 @@ use std::sync::Wait;
 
 /// The handle that a half of a link has of the link's socket, until it gives that up. It is seen as the link's one socket, and
 /// whether it wasn't given up.
-#[derive(Drop)]
 pub struct Handle {
     socket: Option<Socket>,
     /// The one socket of its link.
     one: Snapshot<Socket>,
     is_missing: bool,
+}
+
+impl Drop for Handle {
+    fn drop(self) {
+        let Handle {
+            socket: _,
+            one: _,
+            is_missing: _,
+        } = self;
+    }
 }
 
 impl Model for Handle {

@@ -12,13 +12,25 @@ use std::alloc::{AllocError, Allocator, Global};
 use std::marker::Model;
 
 /// A descriptor, whose payload has a length that its kind allows (Gnutella v0.4, "Descriptor header").
-#[derive(Debug, Drop)]
+#[derive(Debug)]
 pub struct Descriptor<A: Allocator = Global> {
     id: Guid,
     kind: Kind,
     ttl: u8,
     hops: u8,
     payload: Bytes<A>,
+}
+
+impl<A: Allocator> Drop for Descriptor<A> {
+    fn drop(self) {
+        let Descriptor {
+            id: _,
+            kind: _,
+            ttl: _,
+            hops: _,
+            payload: _,
+        } = self;
+    }
 }
 
 impl<A: Allocator> Model for Descriptor<A> {
