@@ -3,55 +3,43 @@
 use crate::threads::bodies::{Ends, Ran, Setting, run_link};
 use gn_bodies::{BodyFault, ReaderEnd, WriterEnd};
 use gn_fixtures::{Heap, OWN_PONG, PING, Refused, Turn, Turns, growths};
-use gn_links::{MemoryLink, MemoryWriter};
+use gn_links::MemoryLink;
 use gn_shake::{Role, consent, request};
 use std::alloc::{AllocError, Allocator};
+use std::process::Abort;
 use std::sync::Wait;
 use std::test::Fail;
 
 /// An accepting link that asks for a connection and sends one Ping.
 fn one_ping<B: Allocator + Copy>(rich: B) -> Result<MemoryLink<B>, AllocError> {
-    let mut bytes = Vec::from_slice(rich, request())?;
-    bytes.extend_from_slice(PING)?;
+    let bytes = [request(), PING].concat(rich)?;
     Ok(MemoryLink::new(Role::Accepting, bytes, 4_096))
-}
-
-/// How many a body that ended so adds to those that were out of memory. None where it has another fault.
-fn stopped<T: Copy>(end: Result<T, BodyFault>) -> Option<u32> {
-    match end {
-        Ok(_) => Some(0),
-        Err(BodyFault::NoMemory) => Some(1),
-        Err(_) => None,
-    }
 }
 
 /// How many of them were out of memory. None where one has another fault.
 fn all_stopped(ends: Ends) -> Option<u32> {
-    match (stopped(ends.0), stopped(ends.1), stopped(ends.2)) {
-        (Some(reader), Some(worker), Some(writer)) => {
-            Some(reader.wrapping_add(worker).wrapping_add(writer))
+    let mut count = 0u32;
+    for fault in [ends.0.err(), ends.1.err(), ends.2.err()] {
+        match fault {
+            None => {}
+            Some(BodyFault::NoMemory) => count = count.wrapping_add(1),
+            Some(_) => return None,
         }
-        _ => None,
     }
+    Some(count)
 }
 
-/// Whether they ended well, having written the consent and the own Pong.
-fn are_done(ends: Ends, written: &[u8]) -> bool {
-    matches!(ends, (Ok(ReaderEnd::Bytes), Ok(()), Ok(WriterEnd::Drained)))
-        && written.strip_prefix(consent()) == Some(OWN_PONG)
-}
+/// How they end well.
+const DONE: Ends = (Ok(ReaderEnd::Bytes), Ok(()), Ok(WriterEnd::Drained));
 
-/// Where a growth was refused, it stopped a body, and with it the run; alone, it stopped no other. The history has as many steps
-/// as the gate knows of; that it is legal is proved.
-fn turn_of<A: Allocator, B: Allocator + Copy>(
-    ran: &Ran<MemoryWriter<B>, A>,
-    refused: Refused,
-) -> Turn {
-    if ran.history.len() != ran.steps {
+/// Where a growth was refused, it stopped a body, and with it the run; alone, it stopped no other. Where none was, they ended well,
+/// having written the consent and the own Pong. The history has as many steps as the gate knows of; that it is legal is proved.
+fn turn_of(ran: &Ran, refused: Refused) -> Turn {
+    if ran.length != ran.steps {
         return Turn::Wrong;
     }
     if !ran.has_refused {
-        return if are_done(ran.ends, ran.writer.bytes()) {
+        return if ran.ends == DONE && ran.is_written {
             Turn::Answered
         } else {
             Turn::Wrong
@@ -74,13 +62,10 @@ struct Bodies<'a, B, R> {
 impl<'a, A: Allocator + Copy, B: Allocator + Copy, R: Wait> Turns<A> for Bodies<'a, B, R> {
     fn turn(&self, heap: &Heap, alloc: A, refused: Refused) -> Result<Turn, Fail> {
         heap.refuse_none();
-        let setting = Setting::refusing(heap, refused);
-        let Some(ran) = run_link(self.rt, alloc, setting, one_ping(self.rich)?) else {
-            return Err("the bodies of a link".into());
-        };
-        let turn = turn_of(&ran, refused);
-        drop(ran);
-        Ok(turn)
+        let written = (consent(), OWN_PONG);
+        let setting = Setting::refusing(heap, refused, written);
+        let ran = run_link(self.rt, alloc, setting, one_ping(self.rich)?)?;
+        Ok(turn_of(&ran, refused))
     }
 }
 
@@ -90,13 +75,20 @@ impl<'a, A: Allocator + Copy, B: Allocator + Copy, R: Wait> Turns<A> for Bodies<
 /// of the history.
 const GROWTHS: u64 = 13 + 9 + 3;
 
+/// Fails unless the bodies meet their growths.
+fn meet_all<A: Allocator + Copy, B: Allocator + Copy, R: Wait + Abort>(
+    rt: &R,
+    heap: &Heap,
+    alloc: A,
+    rich: B,
+) -> Result<(), Fail> {
+    let met = growths(heap, alloc, &Bodies { rt, rich })?;
+    assert_eq!(rt; met, GROWTHS);
+    Ok(())
+}
+
 #[test]
 fn bodies_of_one_link(rt: HostRuntime) -> Result<(), Fail> {
     let heap = Heap::new(rt.alloc());
-    let bodies = Bodies {
-        rt: &rt,
-        rich: rt.alloc(),
-    };
-    assert_eq!(rt; growths(&heap, &heap, &bodies)?, GROWTHS);
-    Ok(())
+    meet_all(&rt, &heap, &heap, rt.alloc())
 }

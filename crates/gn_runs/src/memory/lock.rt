@@ -6,7 +6,7 @@ use crate::threads::hub::service_of;
 use gn_actors::{Named, Unopened};
 use gn_capture::read_history;
 use gn_fixtures::{Heap, Refused, Turn, Turns, are_same, growths, ping};
-use gn_hub::{Actor, Batch, Hub, Next, Outgoing, Role, Service, ServiceFault};
+use gn_hub::{Actor, Batch, Hub, Role, Service, ServiceFault};
 use gn_payload::Checked;
 use gn_rules::{Event, Historian, Receipt, Refusal};
 use gn_search::PlainRouter;
@@ -50,38 +50,47 @@ own eeeeeeeeeeeeeeeeeeeeeeeeeeeeeeee 127.0.0.1 6346 5 40\n\
 3 take 2 = taken a1a1a1a1a1a1a1a1a1a1a1a1a1a1a1a100060100000000\n\
 end\n";
 
-/// Where the calls are made: on what lies under the lock, or on the lock. Each answers the receipt of its step.
+/// What the calls pass on: an Admit of a Ping, and that Ping, whose payload was checked.
+#[derive(Drop)]
+struct Passed<A: Allocator> {
+    admit: Event<A>,
+    checked: Checked<A>,
+}
+
+/// Where the calls are made: on what lies under the lock, or on the lock.
 trait Place<L: Ledger + Named, A: Allocator + Copy> {
-    /// Makes the step of an event.
-    fn call(&mut self, me: &mut Actor<L, A>, event: &Event<A>) -> Result<Receipt<A>, Refusal>;
+    /// Makes a call that isn't a Take: the actor's own link connects, its Ping is admitted, or ticket 0 is routed.
+    fn call(
+        &mut self,
+        me: &mut Actor<L, A>,
+        made: Made,
+        passed: &Passed<A>,
+    ) -> Result<Receipt<A>, Refusal>;
 
-    /// Routes ticket 0, whose descriptor was checked.
-    fn route(&mut self, me: &mut Actor<L, A>, checked: &Checked<A>) -> Result<Receipt<A>, Refusal>;
-
-    /// Connects the actor's own link.
-    fn connect(&mut self, me: &mut Actor<L, A>) -> Result<Receipt<A>, Refusal>;
-
-    /// Takes a packet of the second connection. Nothing is put to those that are kept where there is none.
-    fn take(&mut self, me: &mut Actor<L, A>, kept: &mut Vec<Receipt<A>, A>) -> Result<(), Refusal>;
+    /// Takes a packet of the second connection: the refusal, where there is one. Nothing is put to those that are kept
+    /// where there is no packet.
+    fn take(&mut self, me: &mut Actor<L, A>, kept: &mut Vec<Receipt<A>, A>) -> Option<Refusal>;
 }
 
 impl<A: Allocator + Copy, C: Historian<A>, L: Ledger + Named> Place<L, A> for Hub<C, L, A> {
-    fn call(&mut self, me: &mut Actor<L, A>, event: &Event<A>) -> Result<Receipt<A>, Refusal> {
-        Hub::call(self, me, event)
+    fn call(
+        &mut self,
+        me: &mut Actor<L, A>,
+        made: Made,
+        passed: &Passed<A>,
+    ) -> Result<Receipt<A>, Refusal> {
+        match made {
+            Made::Connects => {
+                let link = me.number();
+                Hub::connect(self, me, link)
+            }
+            Made::Admits => Hub::call(self, me, &passed.admit),
+            _ => Hub::route(self, me, 0, &passed.checked),
+        }
     }
 
-    fn route(&mut self, me: &mut Actor<L, A>, checked: &Checked<A>) -> Result<Receipt<A>, Refusal> {
-        Hub::route(self, me, 0, checked)
-    }
-
-    fn connect(&mut self, me: &mut Actor<L, A>) -> Result<Receipt<A>, Refusal> {
-        let link = me.number();
-        Hub::connect(self, me, link)
-    }
-
-    fn take(&mut self, me: &mut Actor<L, A>, kept: &mut Vec<Receipt<A>, A>) -> Result<(), Refusal> {
-        let _ = self.next_out(me, 2, kept)?;
-        Ok(())
+    fn take(&mut self, me: &mut Actor<L, A>, kept: &mut Vec<Receipt<A>, A>) -> Option<Refusal> {
+        self.next_out(me, 2, kept).err()
     }
 }
 
@@ -94,24 +103,26 @@ struct Locked<'r, 's, R, C: Historian<A> + Drop, L: Ledger + Named, A: Allocator
 
 impl<'r, 's, A: Allocator + Copy, C: Historian<A> + Drop, L: Ledger + Named, R: Wait> Place<L, A>
     for Locked<'r, 's, R, C, L, A> {
-    fn call(&mut self, me: &mut Actor<L, A>, event: &Event<A>) -> Result<Receipt<A>, Refusal> {
-        self.service.call(self.rt, me, event)
+    fn call(
+        &mut self,
+        me: &mut Actor<L, A>,
+        made: Made,
+        passed: &Passed<A>,
+    ) -> Result<Receipt<A>, Refusal> {
+        match made {
+            Made::Connects => {
+                let link = me.number();
+                self.service.connect(self.rt, me, link)
+            }
+            Made::Admits => self.service.call(self.rt, me, &passed.admit),
+            _ => self.service.route(self.rt, me, 0, &passed.checked),
+        }
     }
 
-    fn route(&mut self, me: &mut Actor<L, A>, checked: &Checked<A>) -> Result<Receipt<A>, Refusal> {
-        self.service.route(self.rt, me, 0, checked)
-    }
-
-    fn connect(&mut self, me: &mut Actor<L, A>) -> Result<Receipt<A>, Refusal> {
-        let link = me.number();
-        self.service.connect(self.rt, me, link)
-    }
-
-    fn take(&mut self, me: &mut Actor<L, A>, kept: &mut Vec<Receipt<A>, A>) -> Result<(), Refusal> {
-        let _ = self
-            .service
-            .next_batch(self.rt, me, 2, Batch::one(), kept, &mut None)?;
-        Ok(())
+    fn take(&mut self, me: &mut Actor<L, A>, kept: &mut Vec<Receipt<A>, A>) -> Option<Refusal> {
+        self.service
+            .next_batch(self.rt, me, 2, Batch::one(), kept, &mut None)
+            .err()
     }
 }
 
@@ -122,8 +133,20 @@ fn take<A: Allocator + Copy, L: Ledger + Named, P: Place<L, A>>(
     me: &mut Actor<L, A>,
 ) -> Result<Receipt<A>, Refusal> {
     let mut kept = Vec::new(alloc);
-    place.take(me, &mut kept)?;
-    kept.pop().ok_or(Refusal::NothingWaiting)
+    match place.take(me, &mut kept) {
+        Some(refusal) => Err(refusal),
+        None => kept.pop().ok_or(Refusal::NothingWaiting),
+    }
+}
+
+/// What the calls pass on.
+fn passed_on<A: Allocator>() -> Option<Passed<A>> {
+    let pings = ping(0xa1, 7, 0).ok().zip(ping(0xa1, 7, 0).ok());
+    let (admitted, routed) = pings?;
+    Some(Passed {
+        admit: Event::Admit(1, admitted),
+        checked: Checked::new(routed),
+    })
 }
 
 /// Makes the call of this number: its receipt. `NotLive` where there is no such actor.
@@ -134,15 +157,12 @@ fn receipt_of<A: Allocator + Copy, L: Ledger + Named, P: Place<L, A>>(
     number: usize,
 ) -> Result<Receipt<A>, Refusal> {
     let (who, made) = CALLS[number.min(4)];
-    let (Some(me), Ok(first)) = (actors.get_mut(who), ping(0xa1, 7, 0)) else {
-        return Err(Refusal::NotLive);
-    };
-    match made {
-        Made::Connects => place.connect(me),
-        Made::Admits => place.call(me, &Event::Admit(1, first)),
-        Made::Routes => place.route(me, &Checked::new(first)),
-        Made::Takes => take(place, alloc, me),
+    let me = actors.get_mut(who).ok_or(Refusal::NotLive)?;
+    if let Made::Takes = made {
+        return take(place, alloc, me);
     }
+    let passed = passed_on().ok_or(Refusal::NotLive)?;
+    place.call(me, made, &passed)
 }
 
 /// Makes the call of this number, whose step has the same number. `Strange` where its receipt says another.
@@ -207,14 +227,21 @@ fn turn_at<A: Allocator + Copy, L: Ledger + Named, P: Place<L, A>>(
     }
 }
 
-/// Whether the calls left their history. That each receipt is of a step of its actor's own is proved.
-fn is_whole<A: Allocator + Copy, C: Historian<A>, L: Ledger + Named>(
+/// How the calls went, where they left their history; wrong, where not. That each receipt is of a step of its actor's own
+/// is proved.
+fn checked_turn<A: Allocator + Copy, C: Historian<A>, L: Ledger + Named>(
     alloc: A,
     hub: &Hub<C, L, A>,
-) -> Result<bool, Fail> {
-    let (_, steps) = read_history(alloc, HISTORY.as_bytes())?;
-    let is_left = are_same(hub.router().history(), steps.as_slice());
-    Ok(is_left && hub.book() == 5)
+    turn: Turn,
+) -> Result<Turn, Fail> {
+    let wanted = read_history(alloc, HISTORY.as_bytes())?;
+    let is_left = are_same(hub.router().history(), wanted.1.as_slice());
+    drop(wanted);
+    Ok(if is_left && hub.book() == 5 {
+        turn
+    } else {
+        Turn::Wrong
+    })
 }
 
 /// The roles of both links.
@@ -234,6 +261,19 @@ fn turn_locked<'r, 's, A: Allocator + Copy, C: Historian<A> + Drop, L: Ledger + 
     turn_at(heap, &mut place, alloc, actors, number, refused)
 }
 
+/// Makes all calls on what lies under the lock.
+fn turn_under<A: Allocator + Copy, C: Historian<A> + Drop, L: Ledger + Named>(
+    heap: &Heap,
+    alloc: A,
+    mut hub: Hub<C, L, A>,
+    actors: &mut [Actor<L, A>],
+    number: usize,
+    refused: Refused,
+) -> Result<Turn, Fail> {
+    let turn = turn_at(heap, &mut hub, alloc, actors, number, refused);
+    checked_turn(alloc, &hub, turn)
+}
+
 /// Makes all calls at the lock, or on what lies under it.
 fn turn_of<A: Allocator + Copy, C: Historian<A> + Drop, L: Ledger + Named, R: Wait>(
     rt: &R,
@@ -248,32 +288,14 @@ fn turn_of<A: Allocator + Copy, C: Historian<A> + Drop, L: Ledger + Named, R: Wa
 {
     heap.refuse_none();
     let (service, mut actors) = service_of::<A, C, L>(alloc, unopened, 100, &ROLES)?;
+    let all = actors.as_mut_slice();
     let (number, is_locked) = call;
-    let (turn, hub) = if is_locked {
-        let turn = turn_locked(
-            rt,
-            heap,
-            &service,
-            alloc,
-            actors.as_mut_slice(),
-            number,
-            refused,
-        );
-        (turn, service.into_hub())
+    if is_locked {
+        let turn = turn_locked(rt, heap, &service, alloc, all, number, refused);
+        checked_turn(alloc, &service.into_hub(), turn)
     } else {
-        let mut hub = service.into_hub();
-        let turn = turn_at(
-            heap,
-            &mut hub,
-            alloc,
-            actors.as_mut_slice(),
-            number,
-            refused,
-        );
-        (turn, hub)
-    };
-    let is_whole = is_whole(alloc, &hub)?;
-    Ok(if is_whole { turn } else { Turn::Wrong })
+        turn_under(heap, alloc, service.into_hub(), all, number, refused)
+    }
 }
 
 /// The call of this number, at the lock or on what lies under it.
@@ -300,8 +322,10 @@ fn actors_of<A: Allocator + Copy, C: Historian<A> + Drop, L: Ledger + Named>(
     requires name { (unopened.blank.name ≡ L.name) × (unopened.steps.name ≡ L.growing) }
     requires parts { (unopened.blank.parts ≡ L.parts) × (unopened.blank.parts ≡ 6) }
 {
-    let (_, actors) = service_of::<A, C, L>(alloc, unopened, 100, &ROLES)?;
-    Ok(actors.len())
+    let made = service_of::<A, C, L>(alloc, unopened, 100, &ROLES)?;
+    let count = made.1.len();
+    drop(made);
+    Ok(count)
 }
 
 /// How many actors a service has that is made.
@@ -323,12 +347,8 @@ impl<A: Allocator + Copy, C: Historian<A> + Drop> Turns<A> for Opens<C> {
         heap.refuse_none();
         Ok(match made {
             Ok(6) if !has_refused => Turn::Answered,
-            Err(ServiceFault::NoMemory) if has_refused => {
-                match opened::<A, C>(alloc) {
-                    Ok(6) => Turn::Refused,
-                    _ => Turn::Wrong,
-                }
-            }
+            Err(ServiceFault::NoMemory) if has_refused && opened::<A, C>(alloc) == Ok(6) =>
+                Turn::Refused,
             _ => Turn::Wrong,
         })
     }

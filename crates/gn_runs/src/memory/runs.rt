@@ -10,6 +10,7 @@ use gn_shake::Role;
 use gn_stage::StageFault;
 use gn_threads::RunFault;
 use std::alloc::{AllocError, Allocator};
+use std::process::Abort;
 use std::sync::Wait;
 use std::test::Fail;
 use std::thread::Threads;
@@ -36,6 +37,18 @@ fn links_of_pings<A: Allocator + Copy, B: Allocator>(
     Ok(links)
 }
 
+/// How a run went that stopped so, or gave a report.
+fn turn_of(fault: Option<RunFault>, has_refused: bool) -> Turn {
+    match fault {
+        None if !has_refused => Turn::Answered,
+        None => Turn::Refused,
+        Some(RunFault::NoMemory | RunFault::Stage(StageFault::NoMemory)) if has_refused => {
+            Turn::Refused
+        }
+        Some(_) => Turn::Wrong,
+    }
+}
+
 /// Runs both links, where these growths are refused: out of memory, or a report. That its history is legal is proved.
 fn run_refused<A: Allocator + Copy + Send + Sync, R: Threads + Wait + Sync>(
     rt: &R,
@@ -50,19 +63,7 @@ fn run_refused<A: Allocator + Copy + Send + Sync, R: Threads + Wait + Sync>(
     let ran = run_of(rt, alloc, &config, links, 1, &NoGate);
     let has_refused = heap.has_refused();
     heap.refuse_none();
-    Ok(match ran {
-        Ok(_report) => {
-            if has_refused {
-                Turn::Refused
-            } else {
-                Turn::Answered
-            }
-        }
-        Err(RunFault::NoMemory | RunFault::Stage(StageFault::NoMemory)) if has_refused => {
-            Turn::Refused
-        }
-        _ => Turn::Wrong,
-    })
+    Ok(turn_of(ran.err(), has_refused))
 }
 
 /// How many growths of a run are refused, each alone or with all later ones, until a run meets none.
@@ -86,12 +87,8 @@ fn growths_of_runs<A: Allocator + Copy + Send + Sync, R: Threads + Wait + Sync>(
 fn ends_of<Rd, W, A: Allocator>(report: &Report<Rd, W, A>) -> (usize, usize) {
     let (mut read, mut failed) = (0usize, 0usize);
     for link in &report.links {
-        if link.reader_end == ReaderEnd::Bytes {
-            read = read.wrapping_add(1);
-        }
-        if link.writer_end == WriterEnd::WriteFailed {
-            failed = failed.wrapping_add(1);
-        }
+        read = read.wrapping_add((link.reader_end == ReaderEnd::Bytes) as usize);
+        failed = failed.wrapping_add((link.writer_end == WriterEnd::WriteFailed) as usize);
     }
     (read, failed)
 }
@@ -114,16 +111,20 @@ fn run_over_two<
     Ok(ends_of(&report))
 }
 
-/// The same of one link and of two.
-fn one_and_two<
+/// Fails unless each link's writer fails in a run over one link and in one over two, and the one reader ends by its bytes,
+/// or at least one of both.
+fn fail_all<
     A: Allocator + Copy + Send + Sync,
     B: Allocator + Copy + Send + Sync,
-    R: Threads + Wait + Sync,
->(rt: &R, heap: &Heap, poor: A, rich: B) -> Result<[(usize, usize); 2], Fail> {
-    Ok([
-        run_over_two(rt, heap, poor, rich, 1)?,
-        run_over_two(rt, heap, poor, rich, 2)?,
-    ])
+    R: Threads + Wait + Sync + Abort,
+>(rt: &R, heap: &Heap, poor: A, rich: B) -> Result<(), Fail> {
+    let one = run_over_two(rt, heap, poor, rich, 1)?;
+    let two = run_over_two(rt, heap, poor, rich, 2)?;
+    assert!(rt;
+        one == (1, 1) && (two == (1, 2) || two == (2, 2)),
+        "{one:?} and {two:?}"
+    );
+    Ok(())
 }
 
 /// A writer that fails closes its connection: where that comes before the same link's reader has offered its Ping, that reader
@@ -131,30 +132,23 @@ fn one_and_two<
 #[test]
 fn writers_without_memory(rt: HostRuntime) -> Result<(), Fail> {
     let heap = Heap::new(rt.alloc());
-    let ends = one_and_two(&rt, &heap, &heap, rt.alloc())?;
-    assert!(rt;
-        ends == [(1, 1), (1, 2)] || ends == [(1, 1), (2, 2)],
-        "{ends:?}"
-    );
-    Ok(())
+    fail_all(&rt, &heap, &heap, rt.alloc())
 }
 
-/// The growths of runs, alone and with all later ones.
-fn both_growths<A: Allocator + Copy + Send + Sync, R: Threads + Wait + Sync>(
+/// Fails unless a run meets many growths, alone and with all later ones.
+fn meet_many<A: Allocator + Copy + Send + Sync, R: Threads + Wait + Sync + Abort>(
     rt: &R,
     heap: &Heap,
     alloc: A,
-) -> Result<[u64; 2], Fail> {
-    Ok([
-        growths_of_runs(rt, heap, alloc, false)?,
-        growths_of_runs(rt, heap, alloc, true)?,
-    ])
+) -> Result<(), Fail> {
+    let alone = growths_of_runs(rt, heap, alloc, false)?;
+    let with_later = growths_of_runs(rt, heap, alloc, true)?;
+    assert!(rt; alone > 60 && with_later > 60, "{alone} and {with_later}");
+    Ok(())
 }
 
 #[test]
 fn runs_of_two_links(rt: HostRuntime) -> Result<(), Fail> {
     let heap = Heap::new(rt.alloc());
-    let [alone, with_later] = both_growths(&rt, &heap, &heap)?;
-    assert!(rt; alone > 60 && with_later > 60, "{alone} and {with_later}");
-    Ok(())
+    meet_many(&rt, &heap, &heap)
 }

@@ -2,13 +2,15 @@
 
 ghost use Rattle.std.specs.Prelude.{◌≡◌};
 
+use crate::threads::bodies::last_of;
 use crate::threads::stage::{put_some, ticket_of};
 use gn_fixtures::{Heap, Refused, Turn, Turns, growths};
 use gn_stage::{
-    Intake, IntakeHome, Outlet, OutletHome, Settled, Site, Stage, StageFault, Unsettled,
+    Desk, Intake, IntakeHome, Outlet, OutletHome, Settled, Site, Stage, StageFault, Unsettled,
 };
 use std::alloc::{AllocError, Allocator};
 use std::marker::Brand;
+use std::process::Abort;
 use std::sync::Wait;
 use std::test::Fail;
 
@@ -21,29 +23,32 @@ fn is_right<A: Allocator>(settled: &Settled<A>) -> bool {
     settled.put == 2 && settled.taken == 1 && left
 }
 
-/// The intake of a stage at home, where two jobs were put.
+/// The only intake of a stage at home, where two jobs were put.
 fn put_two<A: Allocator + Copy, S: Site, R: Wait>(
     rt: &R,
     alloc: A,
-    mut intake: Intake<S, A>,
+    intakes: Vec<Intake<S, A>, A>,
 ) -> Result<Vec<IntakeHome<S, A>, A>, AllocError> {
+    let mut intake = last_of(intakes).ok_or(AllocError)?;
     put_some(rt, &mut intake, 0, 2);
     Ok(vec![in alloc; intake.finish()]?)
 }
 
-/// The outlet of a stage at home, where the first job was taken.
-fn take_one<A: Allocator + Copy, S: Site, R: Wait>(
-    rt: &R,
-    alloc: A,
-    mut outlet: Outlet<S, A>,
-) -> Result<Vec<OutletHome<S, A>, A>, Fail> {
-    let first = ticket_of(outlet.take(rt));
-    let homes = vec![in alloc; outlet.finish()]?;
-    if first == Some(0) {
-        Ok(homes)
-    } else {
-        Err("the first job".into())
+/// Whether the first outlet takes the first job.
+fn takes_first<A: Allocator, S: Site, R: Wait>(rt: &R, outlets: &mut [Outlet<S, A>]) -> bool {
+    match outlets.first_mut() {
+        Some(outlet) => ticket_of(outlet.take(rt)) == Some(0),
+        None => false,
     }
+}
+
+/// The only outlet of a stage at home.
+fn outlet_home<A: Allocator + Copy, S: Site>(
+    alloc: A,
+    outlets: Vec<Outlet<S, A>, A>,
+) -> Result<Vec<OutletHome<S, A>, A>, AllocError> {
+    let outlet = last_of(outlets).ok_or(AllocError)?;
+    Ok(vec![in alloc; outlet.finish()]?)
 }
 
 /// Settles again what was out of memory.
@@ -53,14 +58,38 @@ fn settle_again<A: Allocator + Copy, S: Site, R: Wait>(
     left: Unsettled<S, A>,
     has_refused: bool,
 ) -> Turn {
-    let is_amiss = left.fault != StageFault::NoMemory || !has_refused;
-    match left.desk.settle(rt, alloc, left.intakes, left.outlets) {
-        Ok(settled) => answered(&settled, is_amiss, Turn::Refused),
-        Err(_) => Turn::Wrong,
+    let Unsettled {
+        fault,
+        desk,
+        intakes,
+        outlets,
+    } = left;
+    let is_amiss = fault != StageFault::NoMemory || !has_refused;
+    let again = desk.settle(rt, alloc, intakes, outlets).ok();
+    answered(again.as_ref(), is_amiss, Turn::Refused)
+}
+
+/// Settles a stage, where these growths are refused. After out of memory it is settled again.
+fn turn_of<A: Allocator + Copy, S: Site, R: Wait>(
+    rt: &R,
+    heap: &Heap,
+    alloc: A,
+    desk: Desk<S, A>,
+    intakes: Vec<IntakeHome<S, A>, A>,
+    outlets: Vec<OutletHome<S, A>, A>,
+    refused: Refused,
+) -> Turn {
+    refused.begin(heap);
+    let answer = desk.settle(rt, alloc, intakes, outlets);
+    let has_refused = heap.has_refused();
+    heap.refuse_none();
+    match answer {
+        Ok(settled) => answered(Some(&settled), has_refused, Turn::Answered),
+        Err(left) => settle_again(rt, alloc, left, has_refused),
     }
 }
 
-/// Settles a stage after two jobs were put and one was taken. After out of memory it is settled again.
+/// Settles a stage after two jobs were put and one was taken.
 fn settles_of<A: Allocator + Copy, S: Site, R: Wait>(
     rt: &R,
     heap: &Heap,
@@ -70,28 +99,24 @@ fn settles_of<A: Allocator + Copy, S: Site, R: Wait>(
 ) -> Result<Turn, Fail>
     requires { stage ≡ S.stage }
 {
-    let (mut ins, mut outs, desk) = stage.ends::<S>(alloc, 1, 1)?;
-    let (Some(intake), Some(outlet)) = (ins.pop(), outs.pop()) else {
-        return Err("both ends".into());
-    };
-    let intakes = put_two(rt, alloc, intake)?;
-    let outlets = take_one(rt, alloc, outlet)?;
-    refused.begin(heap);
-    let answer = desk.settle(rt, alloc, intakes, outlets);
-    let has_refused = heap.has_refused();
-    heap.refuse_none();
-    Ok(match answer {
-        Ok(settled) => answered(&settled, has_refused, Turn::Answered),
-        Err(left) => settle_again(rt, alloc, left, has_refused),
-    })
+    let (ins, mut outs, desk) = stage.ends::<S>(alloc, 1, 1)?;
+    let intakes = put_two(rt, alloc, ins).ok();
+    let has_first = takes_first(rt, outs.as_mut_slice());
+    let homes = intakes.zip(outlet_home(alloc, outs).ok());
+    let (intakes, outlets) = homes.ok_or("the ends at home")?;
+    let turn = turn_of(rt, heap, alloc, desk, intakes, outlets, refused);
+    if has_first {
+        Ok(turn)
+    } else {
+        Err("the first job".into())
+    }
 }
 
 /// This turn, where nothing is amiss and the answer is the right one.
-fn answered<A: Allocator>(settled: &Settled<A>, is_amiss: bool, turn: Turn) -> Turn {
-    if !is_amiss && is_right(settled) {
-        turn
-    } else {
-        Turn::Wrong
+fn answered<A: Allocator>(settled: Option<&Settled<A>>, is_amiss: bool, turn: Turn) -> Turn {
+    match settled {
+        Some(settled) if !is_amiss && is_right(settled) => turn,
+        _ => Turn::Wrong,
     }
 }
 
@@ -112,8 +137,10 @@ impl<'a, A: Allocator + Copy, R: Wait> Turns<A> for Settles<'a, R> {
 fn has_ends<A: Allocator + Copy, S: Site>(alloc: A, stage: Stage<A>) -> Result<bool, AllocError>
     requires { stage ≡ S.stage }
 {
-    let (ins, outs, _desk) = stage.ends::<S>(alloc, 1, 1)?;
-    Ok(ins.len() == 1 && outs.len() == 1)
+    let ends = stage.ends::<S>(alloc, 1, 1)?;
+    let has_both = (ends.0.len() == 1) & (ends.1.len() == 1);
+    drop(ends);
+    Ok(has_both)
 }
 
 /// Makes a stage and its ends.
@@ -133,16 +160,26 @@ impl<A: Allocator + Copy> Turns<A> for Makes {
         heap.refuse_none();
         Ok(match made {
             Ok(true) if !has_refused => Turn::Answered,
-            Err(_) if has_refused && is_made(alloc)? => Turn::Refused,
+            Err(_) if has_refused && is_made(alloc) == Ok(true) => Turn::Refused,
             _ => Turn::Wrong,
         })
     }
 }
 
+/// Fails unless making a stage and settling one meet their growths.
+fn meet_all<A: Allocator + Copy, R: Wait + Abort>(
+    rt: &R,
+    heap: &Heap,
+    alloc: A,
+) -> Result<(), Fail> {
+    let made = growths(heap, alloc, &Makes)?;
+    let settled = growths(heap, alloc, &Settles { rt })?;
+    assert_eq!(rt; (made, settled), (14, 1));
+    Ok(())
+}
+
 #[test]
 fn the_stage_queue(rt: HostRuntime) -> Result<(), Fail> {
     let heap = Heap::new(rt.alloc());
-    assert_eq!(rt; growths(&heap, &heap, &Makes)?, 14);
-    assert_eq!(rt; growths(&heap, &heap, &Settles { rt: &rt })?, 1);
-    Ok(())
+    meet_all(&rt, &heap, &heap)
 }

@@ -10,44 +10,40 @@ mod jobs;
 mod ways_out;
 mod worked;
 
+use crate::threads::hub::are_lines;
+use crate::threads::stage::put_some;
 use fakes::{Doorman, Told};
 use gn_actors::{Named, Unopened};
 use gn_bodies::{
     BodyFault, Caller, ReaderEnd, ReaderTask, WorkerTask, WriterDone, WriterEnd, WriterTask,
     reader_body, worker_body, writer_body,
 };
-use gn_fixtures::{Heap, Refused, ping};
+use gn_fixtures::{Heap, Refused};
 use gn_hub::{Actor, Batch, Door, Hub, Service};
-use gn_links::{Link, LinkReader, LinkWriter, MemoryLink, MemoryWriter, Place};
-use gn_rules::{Event, Historian, RouterCore, Step};
+use gn_links::{Link, LinkReader, LinkWriter, MemoryLink, Place};
+use gn_rules::{Event, Historian, RouterCore};
 use gn_shake::Role;
-use gn_stage::{Intake, Job, Outlet, Site, Stage};
+use gn_stage::{Intake, Outlet, Site, Stage};
 use gn_table_router::TableRouter;
-use std::alloc::{Allocator, Global};
+use std::alloc::Allocator;
 use std::marker::Brand;
 use std::sync::Wait;
 use std::sync::ledger::Ledger;
+use std::test::Fail;
 
 /// The number by which the worker passes the gate.
 const WORKER: u32 = 5;
 
-/// The last of these actors, which have no receipts, where it has this number.
+/// Takes the last of these actors, which have no receipts.
 #[tactic(auto, using(crate::proofs::NewLemmas::left_none, crate::proofs::NewLemmas::last_none))]
 fn last_actor<A: Allocator + Copy, L: Ledger + Named>(
     actors: &mut Vec<Actor<L, A>, A>,
-    number: u32,
 ) -> Option<Actor<L, A>>
     requires { All (λ actor. actor.receipts ≡ []) actors.old.items }
     ensures rest { All (λ actor. actor.receipts ≡ []) actors.new.items }
-    ensures last { IfSome result (λ actor. (actor.number ≡ number) × (actor.receipts ≡ [])) }
+    ensures last { IfSome result (λ actor. actor.receipts ≡ []) }
 {
-    let actor = actors.pop()?;
-    if actor.number() == number {
-        Some(actor)
-    } else {
-        drop(actor);
-        None
-    }
+    actors.pop()
 }
 
 /// The actors of a run of one link and one worker.
@@ -58,35 +54,21 @@ struct Actors<L: Ledger + Named, A: Allocator> {
     worker: Actor<L, A>,
 }
 
-/// The reader, the writer and the worker, which have no receipts, where they have these numbers.
+/// The reader, the writer and the worker, which stand in this order and have no receipts.
 fn actors_of<A: Allocator + Copy, L: Ledger + Named>(
     actors: Vec<Actor<L, A>, A>,
 ) -> Option<Actors<L, A>>
     requires { All (λ actor. actor.receipts ≡ []) actors.items }
-    ensures reader { IfSome result (λ all. (all.reader.number ≡ 0) × (all.reader.receipts ≡ [])) }
-    ensures writer { IfSome result (λ all. (all.writer.number ≡ 1) × (all.writer.receipts ≡ [])) }
-    ensures worker { IfSome result (λ all. (all.worker.number ≡ 2) × (all.worker.receipts ≡ [])) }
+    ensures reader { IfSome result (λ all. all.reader.receipts ≡ []) }
+    ensures writer { IfSome result (λ all. all.writer.receipts ≡ []) }
+    ensures worker { IfSome result (λ all. all.worker.receipts ≡ []) }
 {
     let mut actors = actors;
-    let worker = last_actor(&mut actors, 2);
-    let writer = last_actor(&mut actors, 1);
-    let reader = last_actor(&mut actors, 0);
+    let worker = last_actor(&mut actors);
+    let writer = last_actor(&mut actors);
+    let reader = last_actor(&mut actors);
     drop(actors);
-    let Some(worker) = worker else {
-        drop(writer);
-        drop(reader);
-        return None;
-    };
-    let Some(writer) = writer else {
-        drop(worker);
-        drop(reader);
-        return None;
-    };
-    let Some(reader) = reader else {
-        drop(worker);
-        drop(writer);
-        return None;
-    };
+    let ((reader, writer), worker) = reader.zip(writer).zip(worker)?;
     Some(Actors {
         reader,
         writer,
@@ -101,17 +83,24 @@ pub(crate) type Ends = (
     Result<WriterEnd, BodyFault>,
 );
 
-/// How the bodies of one link ended, how many steps the gate knows of, who passed it last with which ticket, of which steps and
-/// ends it was told, and what they left of the run.
-#[derive(Drop)]
-pub(crate) struct Ran<W: LinkWriter, A: Allocator = Global> {
+/// How the bodies of one link ended, and what is looked at of the run that they left.
+#[derive(Clone, Copy)]
+pub(crate) struct Ran {
     pub(crate) ends: Ends,
+    /// How many steps the gate knows of.
     pub(crate) steps: usize,
+    /// Who passed the gate last, with which ticket.
     passed: Option<(u32, u32)>,
+    /// Of which steps the gate was told.
     told: Told,
+    /// Of which ends the gate was told: the reader's, the writer's.
     ended: (bool, bool),
-    pub(crate) writer: W,
-    pub(crate) history: Vec<Step<A>, A>,
+    /// Whether what its setting says was written, and no more.
+    pub(crate) is_written: bool,
+    /// How many steps its history has.
+    pub(crate) length: usize,
+    /// Whether they have the lines that its setting says.
+    has_lines: bool,
     door: Door,
     is_closing: bool,
     pub(crate) has_failed: bool,
@@ -124,8 +113,8 @@ pub(crate) struct Ran<W: LinkWriter, A: Allocator = Global> {
 pub(crate) struct Setting<'a> {
     /// The most steps of its history.
     steps: u32,
-    /// The ticket of a job that waits in its queue and that nobody admitted.
-    forged: Option<u32>,
+    /// The first ticket, and the number, of jobs that wait in its queue and that nobody admitted.
+    forged: (u32, u32),
     /// How many connections the house makes before the link, of four that may be live.
     connected: u32,
     /// Whether it has no worker.
@@ -134,26 +123,37 @@ pub(crate) struct Setting<'a> {
     turns: u32,
     /// How many packets its writer takes at once at most.
     batch: u32,
+    /// What its writer is to write: an opening, and what comes after it.
+    written: (&'a [u8], &'a [u8]),
+    /// The lines that its history is to have.
+    lines: &'a str,
     /// The memory of the bodies, and which of their growths it refuses; nothing else that the run does is refused any.
     refused: Option<(&'a Heap, Refused)>,
 }
 
-/// A history of a hundred steps, one packet at a time, and nothing out of the way.
+/// A history of a hundred steps, one packet at a time, nothing that is to be written, and nothing out of the way.
 const USUAL: Setting<'static> = Setting {
     steps: 100,
-    forged: None,
+    forged: (0, 0),
     connected: 0,
     is_alone: false,
     turns: 1_000_000,
     batch: 1,
+    written: (b"", b""),
+    lines: "",
     refused: None,
 };
 
 impl<'a> Setting<'a> {
-    /// The usual one, where the bodies are refused these growths of a memory.
-    pub(crate) fn refusing(heap: &'a Heap, refused: Refused) -> Self {
+    /// The usual one, where the bodies are refused these growths of a memory, and are to write this.
+    pub(crate) fn refusing(
+        heap: &'a Heap,
+        refused: Refused,
+        written: (&'a [u8], &'a [u8]),
+    ) -> Self {
         Setting {
             refused: Some((heap, refused)),
+            written,
             ..USUAL
         }
     }
@@ -178,43 +178,50 @@ fn end_refusals(refused: Option<(&Heap, Refused)>) -> bool {
     }
 }
 
-/// What a gate and a hub know once all bodies have returned, with what those gave back. A job that passed the gate is a step,
-/// but for one whose worker was refused the route.
-fn what_ran<A, C, L: Ledger + Named, W: LinkWriter>(
+/// What a gate and a hub know once all bodies have returned, with how those ended and whether the writer wrote what it was
+/// to. A job that passed the gate is a step, but for one whose worker was refused the route.
+fn what_ran<A, C, L: Ledger + Named>(
+    alloc: A,
     gate: &Doorman,
     hub: Hub<C, L, A>,
-    read: Result<ReaderEnd, BodyFault>,
-    worked: Result<(), BodyFault>,
-    wrote: WriterDone<W, L, A>,
+    ends: Ends,
+    is_written: bool,
     has_refused: bool,
-) -> Ran<W, A>
+    wanted: &str,
+) -> Ran
 where
     A: Allocator + Copy,
     C: Historian<A> + Drop,
 {
-    let WriterDone { writer, end, .. } = wrote;
-    let refused = if worked.is_err() { 1 } else { 0 };
+    let (door, is_closing, has_failed) = (hub.door(0), hub.closing(), hub.failed());
+    let history = hub.into_router().into_history();
+    let has_lines = are_lines(alloc, history.as_slice(), wanted);
     Ran {
-        ends: (read, worked, end),
-        steps: gate.count.get().wrapping_sub(refused),
+        ends,
+        steps: gate
+            .count
+            .get()
+            .wrapping_sub(if ends.1.is_err() { 1 } else { 0 }),
         passed: gate.last.get(),
         told: gate.told.get(),
         ended: gate.ended.get(),
-        writer,
-        door: hub.door(0),
-        is_closing: hub.closing(),
-        has_failed: hub.failed(),
+        is_written,
+        length: history.len(),
+        has_lines,
+        door,
+        is_closing,
+        has_failed,
         has_refused,
-        history: hub.into_router().into_history(),
     }
 }
 
-/// An actor of the only link, with all that its calls need.
-fn at_link<'s, A, C, L: Ledger + Named, R>(
+/// An actor that makes its calls from this place, with all that they need.
+fn caller_at<'s, A, C, L: Ledger + Named, R>(
     rt: &'s R,
     alloc: A,
     service: &'s Service<C, L, A>,
     gate: &'s Doorman,
+    place: u32,
     actor: Actor<L, A>,
 ) -> Caller<'s, Doorman, L, C, R, A>
 where
@@ -227,62 +234,49 @@ where
         alloc,
         service,
         gate,
-        place: Place::of(0),
+        place: Place::of(place),
         actor,
     }
 }
 
 /// How a worker ends that has this outlet; well, where there is none.
 fn worker_end<A, C, B: Site + Ledger + Named, R: Wait>(
-    rt: &R,
-    alloc: A,
-    service: &Service<C, B, A>,
-    worker: Actor<B, A>,
-    gate: &Doorman,
+    caller: Caller<'_, Doorman, B, C, R, A>,
     batch: Batch,
     outlet: Option<Outlet<B, A>>,
 ) -> Result<(), BodyFault>
 where
     A: Allocator + Copy,
     C: RouterCore<A> + Drop,
-    requires { worker.receipts ≡ [] }
+    requires { caller.receipts ≡ [] }
 {
     let Some(outlet) = outlet else {
-        drop(worker);
         return Ok(());
-    };
-    let caller = Caller {
-        rt,
-        alloc,
-        service,
-        gate,
-        place: Place::of(WORKER),
-        actor: worker,
     };
     worker_body(caller, WorkerTask { batch, outlet }).end
 }
 
-/// The reader, the worker, where there is one, and the writer of one link, one after the other.
+/// The reader, the worker, where there is one, and the writer of one link, one after the other: how they end, and the half of
+/// the link that is written.
 fn in_turn<A, C, B: Site + Ledger + Named, Rd: LinkReader, W: LinkWriter, R: Wait>(
     rt: &R,
     alloc: A,
-    service: Service<C, B, A>,
+    service: &Service<C, B, A>,
+    gate: &Doorman,
     actors: Actors<B, A>,
     intake: Intake<B, A>,
     outlet: Option<Outlet<B, A>>,
     role: Role,
-    turns: u32,
-    batch: Batch,
+    setting: Setting<'_>,
     reader: Rd,
     writer: W,
-    refused: Option<(&Heap, Refused)>,
-) -> Ran<W, A>
+) -> (Ends, W)
 where
     A: Allocator + Copy,
     C: Historian<A> + Drop,
-    requires reading { (actors.reader.number ≡ 0) × (actors.reader.receipts ≡ []) }
-    requires writing { (actors.writer.number ≡ 1) × (actors.writer.receipts ≡ []) }
-    requires working { (actors.worker.number ≡ 2) × (actors.worker.receipts ≡ []) }
+    requires reading { actors.reader.receipts ≡ [] }
+    requires writing { actors.writer.receipts ≡ [] }
+    requires working { actors.worker.receipts ≡ [] }
     requires reader { IsNewReader (Rd.state reader) }
     requires writer { IsNewWriter (W.state writer) }
 {
@@ -291,57 +285,78 @@ where
         writer: w,
         worker: k,
     } = actors;
-    let gate = Doorman::new();
-    begin_refusals(refused);
+    let batch = Batch::of(setting.batch).unwrap_or(Batch::one());
     let reads = ReaderTask {
         role,
-        turns,
+        turns: setting.turns,
         batch,
         reader,
         intake,
     };
-    let done = reader_body(at_link(rt, alloc, &service, &gate, a), reads);
-    let read = done.end;
-    drop(done);
-    let worked = worker_end(rt, alloc, &service, k, &gate, batch, outlet);
+    let read = reader_body(caller_at(rt, alloc, service, gate, 0, a), reads).end;
+    let worked = worker_end(
+        caller_at(rt, alloc, service, gate, WORKER, k),
+        batch,
+        outlet,
+    );
     let writes = WriterTask {
         role,
         batch,
         writer,
     };
-    let wrote = writer_body(at_link(rt, alloc, &service, &gate, w), writes);
-    let has_refused = end_refusals(refused);
-    what_ran(&gate, service.into_hub(), read, worked, wrote, has_refused)
+    let WriterDone { writer, end, .. } = writer_body(
+        caller_at(rt, alloc, service, gate, 0, w),
+        writes,
+    );
+    ((read, worked, end), writer)
 }
 
-/// Puts a job of a Ping that nobody admitted, where the setting has one.
-fn forge<A: Allocator, S: Site, R: Wait>(rt: &R, intake: &mut Intake<S, A>, forged: Option<u32>) {
-    let Some(ticket) = forged else {
-        return;
-    };
-    let Ok(descriptor) = ping(0xa1, 7, 0) else {
-        return;
-    };
-    drop(intake.put(rt, Job { ticket, descriptor }));
+/// The last of these; the others are dropped.
+pub(crate) fn last_of<T: Drop, A: Allocator>(mut all: Vec<T, A>) -> Option<T> {
+    all.pop()
 }
 
-/// The only intake and the only outlet of a stage.
+/// The outlet of a worker; none in a run without workers.
+fn outlet_of<S: Site, A: Allocator>(outlet: Outlet<S, A>, is_alone: bool) -> Option<Outlet<S, A>> {
+    if is_alone {
+        drop(outlet);
+        return None;
+    }
+    Some(outlet)
+}
+
+/// The only intake and the only outlet of a stage; no outlet in a run without workers.
 fn ends_of<A: Allocator + Copy, S: Site>(
     alloc: A,
     stage: Stage<A>,
-) -> Option<(Intake<S, A>, Outlet<S, A>)>
+    is_alone: bool,
+) -> Option<(Intake<S, A>, Option<Outlet<S, A>>)>
     requires { stage ≡ S.stage }
 {
-    let (mut ins, mut outs, desk) = stage.ends::<S>(alloc, 1, 1).ok()?;
+    let (ins, outs, desk) = stage.ends::<S>(alloc, 1, 1).ok()?;
     drop(desk);
-    let ends = ins.pop().zip(outs.pop());
-    drop(ins);
-    drop(outs);
-    ends
+    let (intake, outlet) = last_of(ins).zip(last_of(outs))?;
+    Some((intake, outlet_of(outlet, is_alone)))
+}
+
+/// The house makes a connection, where it may.
+fn connect<A, C, L: Ledger + Named, R: Wait>(
+    rt: &R,
+    service: &Service<C, L, A>,
+    house: &mut Actor<L, A>,
+)
+where
+    A: Allocator + Copy,
+    C: RouterCore<A> + Drop,
+{
+    let event = Event::Connect;
+    let answer = service.call(rt, house, &event);
+    drop(event);
+    drop(answer);
 }
 
 /// The house makes so many connections.
-fn connect<A, C, L: Ledger + Named, R: Wait>(
+fn connect_all<A, C, L: Ledger + Named, R: Wait>(
     rt: &R,
     service: &Service<C, L, A>,
     house: Option<Actor<L, A>>,
@@ -354,12 +369,9 @@ where
     let Some(mut house) = house else {
         return;
     };
-    let event = Event::Connect;
     for _ in 0..count {
-        let _ = service.call(rt, &mut house, &event);
+        connect(rt, service, &mut house);
     }
-    drop(event);
-    drop(house);
 }
 
 /// A service of one link and one worker, of which the house has made its connections, with its other actors.
@@ -376,35 +388,59 @@ where
     C: Historian<A> + Drop,
     requires name { (unopened.blank.name ≡ L.name) × (unopened.steps.name ≡ L.growing) }
     requires parts { (unopened.blank.parts ≡ L.parts) × (unopened.blank.parts ≡ 4) }
-    ensures reader { IfSome result (λ r. (r.1.reader.number ≡ 0) × (r.1.reader.receipts ≡ [])) }
-    ensures writer { IfSome result (λ r. (r.1.writer.number ≡ 1) × (r.1.writer.receipts ≡ [])) }
-    ensures worker { IfSome result (λ r. (r.1.worker.number ≡ 2) × (r.1.worker.receipts ≡ [])) }
+    ensures reader { IfSome result (λ r. r.1.reader.receipts ≡ []) }
+    ensures writer { IfSome result (λ r. r.1.writer.receipts ≡ []) }
+    ensures worker { IfSome result (λ r. r.1.worker.receipts ≡ []) }
 {
-    let Ok((service, mut actors)) = crate::threads::hub::service_of::<A, C, L>(
-        alloc,
-        unopened,
-        setting.steps,
-        &[role],
-    ) else {
+    let made = crate::threads::hub::service_of::<A, C, L>(alloc, unopened, setting.steps, &[role]);
+    let Ok((service, mut actors)) = made else {
         return None;
     };
-    connect(rt, &service, actors.pop(), setting.connected);
-    match actors_of(actors) {
-        Some(actors) => Some((service, actors)),
-        None => {
-            drop(service);
-            None
-        }
-    }
+    connect_all(rt, &service, actors.pop(), setting.connected);
+    let actors = actors_of(actors)?;
+    Some((service, actors))
 }
 
-/// The outlet of a worker; none in a run without workers.
-fn outlet_of<S: Site, A: Allocator>(outlet: Outlet<S, A>, is_alone: bool) -> Option<Outlet<S, A>> {
-    if is_alone {
-        drop(outlet);
-        return None;
-    }
-    Some(outlet)
+/// The bodies of one memory link in turn, with the ends of a stage and the actors of a service.
+fn over_link<A, B, C, L: Site + Ledger + Named, R: Wait>(
+    rt: &R,
+    alloc: A,
+    service: Service<C, L, A>,
+    actors: Actors<L, A>,
+    intake: Intake<L, A>,
+    outlet: Option<Outlet<L, A>>,
+    setting: Setting<'_>,
+    link: MemoryLink<B>,
+) -> Option<Ran>
+where
+    A: Allocator + Copy,
+    B: Allocator + Copy,
+    C: Historian<A> + Drop,
+    requires reading { actors.reader.receipts ≡ [] }
+    requires writing { actors.writer.receipts ≡ [] }
+    requires working { actors.worker.receipts ≡ [] }
+{
+    let role = link.role();
+    let (reader, writer) = link.split().ok()?;
+    let gate = Doorman::new();
+    begin_refusals(setting.refused);
+    let (ends, writer) = in_turn(
+        rt, alloc, &service, &gate, actors, intake, outlet, role, setting, reader, writer,
+    );
+    let has_refused = end_refusals(setting.refused);
+    let (opening, after) = setting.written;
+    let is_written = writer.bytes().strip_prefix(opening) == Some(after);
+    drop(writer);
+    let ran = what_ran(
+        alloc,
+        &gate,
+        service.into_hub(),
+        ends,
+        is_written,
+        has_refused,
+        setting.lines,
+    );
+    Some(ran)
 }
 
 /// The bodies of one memory link in turn, with the ends of a stage and the actors of a service of their own.
@@ -415,7 +451,7 @@ fn in_stage<A, B, C, L: Site + Ledger + Named, R: Wait>(
     stage: Stage<A>,
     setting: Setting<'_>,
     link: MemoryLink<B>,
-) -> Option<Ran<MemoryWriter<B>, A>>
+) -> Option<Ran>
 where
     A: Allocator + Copy,
     B: Allocator + Copy,
@@ -424,51 +460,22 @@ where
     requires parts { (unopened.blank.parts ≡ L.parts) × (unopened.blank.parts ≡ 4) }
     requires stage { stage ≡ L.stage }
 {
+    let (mut intake, outlet) = ends_of::<A, L>(alloc, stage, setting.is_alone)?;
+    put_some(rt, &mut intake, setting.forged.0, setting.forged.1);
     let role = link.role();
-    let ends = ends_of::<A, L>(alloc, stage);
-    let Ok((reader, writer)) = link.split() else {
-        drop(ends);
-        return None;
-    };
-    let Some((mut intake, outlet)) = ends else {
-        drop(reader);
-        drop(writer);
-        return None;
-    };
-    forge(rt, &mut intake, setting.forged);
-    let made = service_of::<A, C, L, R>(rt, alloc, unopened, setting, role);
-    let Some((service, actors)) = made else {
-        drop(intake);
-        drop(outlet);
-        drop(reader);
-        drop(writer);
-        return None;
-    };
-    let outlet = outlet_of(outlet, setting.is_alone);
-    Some(in_turn(
-        rt,
-        alloc,
-        service,
-        actors,
-        intake,
-        outlet,
-        role,
-        setting.turns,
-        Batch::of(setting.batch).unwrap_or(Batch::one()),
-        reader,
-        writer,
-        setting.refused,
-    ))
+    let (service, actors) = service_of::<A, C, L, R>(rt, alloc, unopened, setting, role)?;
+    over_link(rt, alloc, service, actors, intake, outlet, setting, link)
 }
 
-/// The bodies of one memory link in turn, over the table router.
+/// The bodies of one memory link in turn, over the table router. None where one of them has no memory to begin with.
 pub(crate) fn run_link<A: Allocator + Copy, B: Allocator + Copy, R: Wait>(
     rt: &R,
     alloc: A,
     setting: Setting<'_>,
     link: MemoryLink<B>,
-) -> Option<Ran<MemoryWriter<B>, A>> {
-    let stage = Stage::new(alloc, 8).ok()?;
+) -> Result<Ran, Fail> {
+    let stage = Stage::new(alloc, 8)?;
     let unopened = Unopened::new(4);
-    in_stage::<A, B, TableRouter<A>, Brand, R>(rt, alloc, unopened, stage, setting, link)
+    let ran = in_stage::<A, B, TableRouter<A>, Brand, R>(rt, alloc, unopened, stage, setting, link);
+    Ok(ran.ok_or("the bodies of a link")?)
 }

@@ -1,15 +1,18 @@
 //! A run whose history is full before all its links have come.
 
+ghost use Rattle.std.specs.Prelude.{◌≡◌, []};
+
 use gn_fixtures::{PING, usual};
 use gn_hub::Batch;
 use gn_links::{Gate, Link, Made, MemoryLink, MemoryReader, MemoryWriter, Place};
-use gn_rules::FreshRouter;
+use gn_rules::{Config, FreshRouter, Historian};
 use gn_shake::Role;
 use gn_table_router::TableRouter;
 use gn_threads::{
-    Arrivals, Asked, Coming, Halted, InMemory, Routing, RunFault, run_arriving, run_arriving_by,
+    Arrivals, Asked, Coming, InMemory, Routing, RunFault, run_arriving, run_arriving_by,
 };
-use std::alloc::{AllocError, Global};
+use std::alloc::{AllocError, Allocator, Global};
+use std::process::Abort;
 use std::sync::Wait;
 use std::sync::atomic::{AtomicBool, AtomicU32, Ordering};
 use std::test::Fail;
@@ -102,14 +105,17 @@ impl<'a> Arrivals for Late<'a> {
     }
 }
 
-/// A plain link of one Ping, and so many greeted ones that end within their greeting.
-fn links_of(alloc: Global, greeted: u32) -> Result<Vec<MemoryLink>, AllocError> {
-    let mut links = Vec::new(alloc);
-    links.push(MemoryLink::new(Role::Plain, PING.to_vec(alloc)?, 4096))?;
-    for _ in 0..greeted {
-        links.push(MemoryLink::new(Role::Accepting, Vec::new(alloc), 4096))?;
-    }
-    Ok(links)
+/// A greeted link that ends within its greeting.
+fn greeted(alloc: Global) -> MemoryLink {
+    MemoryLink::new(Role::Accepting, Vec::new(alloc), 4096)
+}
+
+/// The first so many of a plain link of one Ping and two greeted ones.
+fn links_of(alloc: Global, count: usize) -> Result<IntoIter<MemoryLink>, AllocError> {
+    let first = MemoryLink::new(Role::Plain, PING.to_vec(alloc)?, 4096);
+    let mut links = vec![in alloc; first, greeted(alloc), greeted(alloc)]?;
+    links.truncate(count);
+    Ok(links.into_iter())
 }
 
 /// What is told while no link has been asked for.
@@ -120,88 +126,99 @@ fn no_news() -> News {
     }
 }
 
-/// The fault of a run of at most one step over three links, of which the last doesn't come, and how many were asked for.
-fn fault_and_asked<R: Threads + Wait + Sync>(
+/// The fault of a run over these links, and how many were asked for.
+fn fault_and_asked<A: Allocator + Copy + Send + Sync, R: Threads + Wait + Sync>(
     rt: &R,
-    alloc: Global,
-) -> Result<(Option<RunFault>, u32), Fail> {
-    let config = usual(1)?;
+    alloc: A,
+    config: &Config,
+    links: IntoIter<MemoryLink>,
+) -> (Option<RunFault>, u32) {
     let news = no_news();
-    let late = Late {
-        links: links_of(alloc, 1)?.into_iter(),
-        news: &news,
-    };
-    let served = run_arriving::<TableRouter, Late<'_>, News, Global, R>(
-        rt, alloc, &config, &ROLES, late, 1, &news,
+    let late = Late { links, news: &news };
+    let served = run_arriving::<TableRouter<A>, Late<'_>, News, A, R>(
+        rt, alloc, config, &ROLES, late, 1, &news,
     );
-    Ok((served.err(), news.asked.load(Ordering::SeqCst)))
+    (served.err(), news.asked.load(Ordering::SeqCst))
 }
 
-/// How a run of at most one step stops over these three links.
-fn halted_over<R: Threads + Wait + Sync>(
+/// The fault of a run over these links, and of how many it is known what they did.
+fn fault_and_known<
+    A: Allocator + Copy + Send + Sync,
+    C: Historian<A> + Drop + Send,
+    R: Threads + Wait + Sync,
+>(
     rt: &R,
-    alloc: Global,
-    links: Vec<MemoryLink>,
-) -> Result<Option<Halted>, Fail> {
-    let config = usual(1)?;
-    let Ok(core) = TableRouter::make(alloc, &config) else {
-        drop(links);
-        return Err("a router".into());
-    };
+    alloc: A,
+    config: &Config,
+    core: C,
+    links: IntoIter<MemoryLink>,
+) -> Option<(RunFault, usize)>
+    requires { C.steps core ≡ [] }
+{
     let news = no_news();
-    let late = Late {
-        links: links.into_iter(),
-        news: &news,
-    };
     let asked = Asked {
-        config: &config,
+        config,
         workers: 1,
         gate: &news,
         batch: Batch::one(),
     };
+    let arrivals = Late { links, news: &news };
     let coming = Coming {
         roles: &ROLES,
-        arrivals: late,
+        arrivals,
     };
     let routing = Routing {
         core,
         course: InMemory,
     };
-    let (answer, _core) = run_arriving_by::<TableRouter, InMemory, Late<'_>, News, Global, R>(
+    let (answer, _core) = run_arriving_by::<C, InMemory, Late<'_>, News, A, R>(
         rt, alloc, &asked, coming, routing,
     );
-    Ok(answer.err())
-}
-
-/// The fault of a run of at most one step over three links, all of which come, and of how many it is known what they did.
-fn fault_and_known<R: Threads + Wait + Sync>(
-    rt: &R,
-    alloc: Global,
-) -> Result<Option<(RunFault, usize)>, Fail> {
-    let links = links_of(alloc, 2)?;
-    let Some(halted) = halted_over(rt, alloc, links)? else {
-        return Ok(None);
+    let Err(halted) = &answer else {
+        return None;
     };
     let known = match &halted.links {
         Some(links) => links.len(),
         None => 0,
     };
-    Ok(Some((halted.fault, known)))
+    Some((halted.fault, known))
+}
+
+/// The same of a run of at most one step over the table router.
+fn fault_of_one_step<A: Allocator + Copy + Send + Sync, R: Threads + Wait + Sync>(
+    rt: &R,
+    alloc: A,
+    links: IntoIter<MemoryLink>,
+) -> Result<Option<(RunFault, usize)>, Fail> {
+    let config = usual(1)?;
+    let core = TableRouter::<A>::make(alloc, &config)?;
+    Ok(fault_and_known(rt, alloc, &config, core, links))
+}
+
+/// Fails unless a full history is named, and all three links are asked for, of which the last doesn't come.
+fn name_full<R: Threads + Wait + Sync + Abort>(rt: &R, alloc: Global) -> Result<(), Fail> {
+    let config = usual(1)?;
+    let found = fault_and_asked(rt, alloc, &config, links_of(alloc, 2)?);
+    assert_eq!(rt; found, (Some(RunFault::HistoryFull), 3));
+    Ok(())
 }
 
 /// The first link's reader alone finds the history full, while the second link is waited for. That comes then; the third is asked for, too,
 /// and there is no memory for it.
 #[test]
 fn a_full_history_is_named_by_any_thread(rt: HostRuntime) -> Result<(), Fail> {
-    let (fault, asked) = fault_and_asked(&rt, rt.alloc())?;
-    assert_eq!(rt; (fault, asked), (Some(RunFault::HistoryFull), 3));
+    name_full(&rt, rt.alloc())
+}
+
+/// Fails unless a full history leaves what each of three links did.
+fn leave_all<R: Threads + Wait + Sync + Abort>(rt: &R, alloc: Global) -> Result<(), Fail> {
+    let found = fault_of_one_step(rt, alloc, links_of(alloc, 3)?)?;
+    assert_eq!(rt; found, Some((RunFault::HistoryFull, 3)));
     Ok(())
 }
 
 /// The same where the third link comes, too: it is known what each of them did.
 #[test]
 fn a_full_history_leaves_what_each_link_did(rt: HostRuntime) -> Result<(), Fail> {
-    let found = fault_and_known(&rt, rt.alloc())?;
-    assert_eq!(rt; found, Some((RunFault::HistoryFull, 3)));
-    Ok(())
+    leave_all(&rt, rt.alloc())
 }

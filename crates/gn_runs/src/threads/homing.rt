@@ -2,12 +2,12 @@
 //!
 //! Each helper is generic in the router and in the allocator, as those of the lent hub.
 
-ghost use Rattle.std.specs.Prelude.{◌≡◌, ◌≤◌, ◌^◌, [], IfOk};
+ghost use Rattle.std.specs.Prelude.{◌≡◌, ◌≤◌, ◌^◌, [], IfSome, IsTrue};
 ghost use Rattle.gn_actors.specs.Registry.{registry_state};
 
+use crate::threads::slots::core_of;
 use gn_actors::{Named, Registry, Unopened};
-use gn_fixtures::usual;
-use gn_hub::{Actor, Batch, Hub, Idle, Outgoing, Retiring, Role, Service};
+use gn_hub::{Actor, Batch, Hub, Outgoing, Retiring, Role, Service};
 use gn_room::Room;
 use gn_rules::{ConnId, Historian, RouterCore};
 use gn_search::PlainRouter;
@@ -31,15 +31,16 @@ const ROWS: [(bool, Left); 2] = [(true, (true, Some(1), 2)), (false, (false, Non
 fn run_of<A: Allocator + Copy, C: Historian<A> + Drop, L: Ledger + Named>(
     alloc: A,
     unopened: Unopened<A>,
-) -> Result<(Service<C, L, A>, Registry<L, A>), Fail>
+) -> Option<(Service<C, L, A>, Registry<L, A>)>
     requires name { (unopened.blank.name ≡ L.name) × (unopened.steps.name ≡ L.growing) }
     requires parts { (unopened.blank.parts ≡ L.parts) × (2 ^ 33 ≤ unopened.blank.parts) }
-    ensures { IfOk result (λ run. run.1 ≡ registry_state [] 0 []) }
+    ensures { IfSome result (λ run. run.1 ≡ registry_state [] 0 []) }
 {
-    let config = usual(100)?;
-    let core = C::make(alloc, &config)?;
-    let (service, share, seen) = Service::open(alloc, unopened, core, Room::endless(), 1)?;
-    Ok((service, Registry::of(share, seen)))
+    let core = core_of::<A, C>(alloc)?;
+    match Service::open(alloc, unopened, core, Room::endless(), 1) {
+        Ok((service, share, seen)) => Some((service, Registry::of(share, seen))),
+        Err(_) => None,
+    }
 }
 
 /// The connection that the link's reader makes.
@@ -56,43 +57,66 @@ fn met<A: Allocator + Copy, C: Historian<A> + Drop, L: Ledger + Named, R: Wait>(
     service.meet(rt, 0)
 }
 
-/// What says that nothing was in flight, as the link's writer drains the connection: no more links come, and its reader is done.
-fn drained<A: Allocator + Copy, C: Historian<A> + Drop, L: Ledger + Named, R: Wait>(
+/// The link's writer drains the connection, which says that nothing was in flight: no more links come, and its reader is
+/// done.
+fn drain<A: Allocator + Copy, C: Historian<A> + Drop, L: Ledger + Named, R: Wait>(
     rt: &R,
     alloc: A,
     service: &Service<C, L, A>,
-    writer: &mut Actor<L, A>,
+    link: &mut Retiring<L, A>,
     c: ConnId,
-) -> Option<Idle<L, A>> {
+) {
     service.no_more(rt);
     service.reader_done(rt, 0);
+    let Retiring { writer, idle, .. } = link;
     let mut kept = Vec::new(alloc);
-    let mut idle = None;
-    match service.next_batch(rt, writer, c, Batch::one(), &mut kept, &mut idle) {
-        Ok(Outgoing::Drained) => idle,
-        _ => None,
+    let answer = service.next_batch(rt, writer, c, Batch::one(), &mut kept, idle);
+    match answer {
+        Ok(Outgoing::Drained) => {}
+        _ => *idle = None,
     }
 }
 
-/// A link that ends once its reader has connected and its writer, where it does that, has drained the connection.
-fn ending<A: Allocator + Copy, C: Historian<A> + Drop, L: Ledger + Named, R: Wait>(
+/// The link ends once its reader has connected and its writer, where it does that, has drained the connection.
+fn end<A: Allocator + Copy, C: Historian<A> + Drop, L: Ledger + Named, R: Wait>(
     rt: &R,
     alloc: A,
     service: &Service<C, L, A>,
-    (mut reader, mut writer): (Actor<L, A>, Actor<L, A>),
+    link: &mut Retiring<L, A>,
     drains: bool,
-) -> Retiring<L, A> {
-    let conn = met(rt, service, &mut reader);
-    let idle = match conn {
-        Some(c) if drains => drained(rt, alloc, service, &mut writer, c),
-        _ => None,
-    };
-    Retiring {
-        reader,
-        writer,
-        conn,
-        idle,
+) {
+    link.conn = met(rt, service, &mut link.reader);
+    match link.conn {
+        Some(c) if drains => drain(rt, alloc, service, link, c),
+        _ => {}
     }
+}
+
+/// Whether the connection is gone of a link whose two actors go out and come home, and after how many steps nothing was in
+/// flight. None where other actors went out.
+fn retired<A: Allocator + Copy, C: Historian<A> + Drop, L: Ledger + Named, R: Wait>(
+    rt: &R,
+    alloc: A,
+    service: &Service<C, L, A>,
+    registry: &mut Registry<L, A>,
+    drains: bool,
+) -> Option<(bool, Option<u64>)>
+    requires { registry.old ≡ registry_state [] 0 [] }
+    ensures { IfSome result (λ _. registry.new.out ≡ 0) }
+{
+    registry.grow(2);
+    let mut link = Retiring {
+        reader: registry.send(0),
+        writer: registry.send(1),
+        conn: None,
+        idle: None,
+    };
+    end(rt, alloc, service, &mut link, drains);
+    if link.reader.number() != 0 || link.writer.number() != 1 || registry.out() != 2 {
+        return None;
+    }
+    let left = service.retire(rt, registry, link);
+    Some((left.is_gone, left.idle))
 }
 
 /// What a link leaves whose two actors are the only ones of a run.
@@ -101,76 +125,91 @@ fn left_by<A: Allocator + Copy, C: Historian<A> + Drop, L: Ledger + Named, R: Wa
     alloc: A,
     unopened: Unopened<A>,
     drains: bool,
-) -> Result<Left, Fail>
+) -> Option<Left>
     requires name { (unopened.blank.name ≡ L.name) × (unopened.steps.name ≡ L.growing) }
     requires parts { (unopened.blank.parts ≡ L.parts) × (2 ^ 33 ≤ unopened.blank.parts) }
 {
     let (service, mut registry) = run_of::<A, C, L>(alloc, unopened)?;
-    registry.grow(2);
-    let actors = (registry.send(0), registry.send(1));
-    let link = ending(rt, alloc, &service, actors, drains);
-    if link.reader.number() != 0 || link.writer.number() != 1 || registry.out() != 2 {
-        return Err(Fail::from("two actors that are out"));
-    }
-    let left = service.retire(rt, &mut registry, link);
+    let (is_gone, idle) = retired(rt, alloc, &service, &mut registry, drains)?;
     let mut hub = service.into_hub();
     let _ = hub.close(registry);
-    Ok((left.is_gone, left.idle, hub.book()))
+    Some((is_gone, idle, hub.book()))
 }
 
 /// That run at the plain router.
-fn left_plain<A: Allocator + Copy, R: Wait>(rt: &R, alloc: A, drains: bool) -> Result<Left, Fail> {
+fn left_plain<A: Allocator + Copy, R: Wait>(rt: &R, alloc: A, drains: bool) -> Option<Left> {
     left_by::<A, PlainRouter<A>, Brand, R>(rt, alloc, Unopened::new(PARTS), drains)
+}
+
+/// The first row of which a link leaves anything else.
+fn wrong_row<A: Allocator + Copy, R: Wait>(rt: &R, alloc: A) -> Option<usize> {
+    for (i, (drains, wanted)) in ROWS.iter().enumerate() {
+        if left_plain(rt, alloc, *drains) != Some(*wanted) {
+            return Some(i);
+        }
+    }
+    None
 }
 
 #[test]
 fn a_link_ends_and_its_actors_come_home(rt: HostRuntime) -> Result<(), Fail> {
-    for (drains, wanted) in ROWS {
-        assert_eq!(rt; left_plain(&rt, rt.alloc(), drains)?, wanted);
-    }
+    assert_eq!(rt; wrong_row(&rt, rt.alloc()), None);
     Ok(())
 }
 
-/// Whether an actor comes home that has connected, with what lies under the lock.
-fn comes_home<A: Allocator + Copy, C: RouterCore<A>, L: Ledger + Named>(
+/// Whether an actor that goes out and connects comes home, as the only one.
+fn connects_and_returns<A: Allocator + Copy, C: RouterCore<A>, L: Ledger + Named>(
     hub: &mut Hub<C, L, A>,
-    registry: Registry<L, A>,
+    registry: &mut Registry<L, A>,
 ) -> bool
-    requires { registry ≡ registry_state [] 0 [] }
+    requires { registry.old ≡ registry_state [] 0 [] }
+    ensures { IsTrue result → registry.new.out ≡ 0 }
 {
-    let mut registry = registry;
     registry.grow(1);
     let mut me = registry.send(0);
     let has_connected = hub.connect(&mut me, 0).is_ok();
     if me.number() != 0 {
         return false;
     }
-    let _ = hub.take_home(&mut registry, me);
-    let is_home = registry.out() == 0 && registry.many() == 1;
+    let _ = hub.take_home(registry, me);
+    has_connected && registry.many() == 1 && registry.out() == 0
+}
+
+/// Whether an actor comes home that has connected, with what lies under the lock.
+fn comes_home<A: Allocator + Copy, C: RouterCore<A>, L: Ledger + Named>(
+    hub: &mut Hub<C, L, A>,
+    mut registry: Registry<L, A>,
+) -> bool
+    requires { registry ≡ registry_state [] 0 [] }
+{
+    if !connects_and_returns(hub, &mut registry) {
+        return false;
+    }
     let _ = hub.close(registry);
-    has_connected && is_home && hub.book() == 1
+    hub.book() == 1
 }
 
 /// Whether the only actor of a run comes home.
 fn one_comes_home<A: Allocator + Copy, C: Historian<A> + Drop, L: Ledger + Named>(
     alloc: A,
     unopened: Unopened<A>,
-) -> Result<bool, Fail>
+) -> bool
     requires name { (unopened.blank.name ≡ L.name) × (unopened.steps.name ≡ L.growing) }
     requires parts { (unopened.blank.parts ≡ L.parts) × (2 ^ 33 ≤ unopened.blank.parts) }
 {
-    let (service, registry) = run_of::<A, C, L>(alloc, unopened)?;
-    let mut hub = service.into_hub();
-    Ok(comes_home(&mut hub, registry))
+    match run_of::<A, C, L>(alloc, unopened) {
+        Some((service, registry)) => comes_home(&mut service.into_hub(), registry),
+        None => false,
+    }
 }
 
 /// That run at the plain router.
-fn one_comes_home_plain<A: Allocator + Copy>(alloc: A) -> Result<bool, Fail> {
+fn one_comes_home_plain<A: Allocator + Copy>(alloc: A) -> bool {
     one_comes_home::<A, PlainRouter<A>, Brand>(alloc, Unopened::new(PARTS))
 }
 
 #[test]
 fn an_actor_comes_home(rt: HostRuntime) -> Result<(), Fail> {
-    assert!(rt; one_comes_home_plain(rt.alloc())?);
+    assert!(rt; one_comes_home_plain(rt.alloc()));
     Ok(())
 }

@@ -16,7 +16,7 @@ use gn_payload::Checked;
 use gn_rules::{ConnId, Event, Historian, Receipt, Refusal, RouterCore, Step, Ticket, is_step_of};
 use gn_search::PlainRouter;
 use gn_text::push_step;
-use std::alloc::{AllocError, Allocator, Global};
+use std::alloc::{AllocError, Allocator};
 use std::marker::Brand;
 use std::sync::ledger::Ledger;
 use std::test::Fail;
@@ -102,10 +102,13 @@ impl<L: Ledger + Named, A: Allocator> Caller<L, A> {
 
     /// Whether it has so many receipts, and each is a step of the history, at its index and its own.
     pub(crate) fn has_receipts(&self, count: usize, history: &[Step<A>]) -> bool {
+        let me = self.me.number();
         for receipt in &self.receipts {
-            match history.get(receipt.index as usize) {
-                Some(step) if is_step_of(step, self.me.number(), receipt) => {}
-                _ => return false,
+            let Some(step) = history.get(receipt.index as usize) else {
+                return false;
+            };
+            if !is_step_of(step, me, receipt) {
+                return false;
             }
         }
         self.receipts.len() == count
@@ -132,11 +135,14 @@ fn admits<A: Allocator + Copy, C: RouterCore<A>, L: Ledger + Named>(
     hub: &mut Hub<C, L, A>,
     caller: &mut Caller<L, A>,
     byte: u8,
-) -> Result<bool, Fail> {
-    let event = Event::Admit(1, ping(byte, 7, 0)?);
+) -> bool {
+    let Ok(ping) = ping(byte, 7, 0) else {
+        return false;
+    };
+    let event = Event::Admit(1, ping);
     let answer = hub.call(&mut caller.me, &event);
     drop(event);
-    Ok(caller.keep(answer).is_ok())
+    caller.keep(answer).is_ok()
 }
 
 /// Whether the route of a Ping is answered so.
@@ -146,11 +152,14 @@ fn is_routed<A: Allocator + Copy, C: RouterCore<A>, L: Ledger + Named>(
     ticket: Ticket,
     byte: u8,
     wanted: Result<(), Refusal>,
-) -> Result<bool, Fail> {
-    let checked = Checked::new(ping(byte, 7, 0)?);
+) -> bool {
+    let Ok(ping) = ping(byte, 7, 0) else {
+        return false;
+    };
+    let checked = Checked::new(ping);
     let answer = hub.route(&mut caller.me, ticket, &checked);
     drop(checked);
-    Ok(caller.keep(answer) == wanted)
+    caller.keep(answer) == wanted
 }
 
 /// Whether the Connect of this link's reader is answered.
@@ -159,11 +168,8 @@ fn connects<A: Allocator + Copy, C: RouterCore<A>, L: Ledger + Named>(
     caller: &mut Caller<L, A>,
     link: u32,
 ) -> bool {
-    if caller.me.number() != link {
-        return false;
-    }
     let answer = hub.connect(&mut caller.me, link);
-    caller.keep(answer).is_ok()
+    caller.keep(answer).is_ok() && caller.me.number() == link
 }
 
 /// Makes a call: whether its answer is the wanted one.
@@ -171,11 +177,11 @@ fn is_answered<A: Allocator + Copy, C: RouterCore<A>, L: Ledger + Named>(
     hub: &mut Hub<C, L, A>,
     caller: &mut Caller<L, A>,
     call: Call,
-) -> Result<bool, Fail> {
-    Ok(match call {
+) -> bool {
+    match call {
         Call::Connects(link) => connects(hub, caller, link),
-        Call::Admits(byte) => admits(hub, caller, byte)?,
-        Call::Routes(ticket, byte, wanted) => is_routed(hub, caller, ticket, byte, wanted)?,
+        Call::Admits(byte) => admits(hub, caller, byte),
+        Call::Routes(ticket, byte, wanted) => is_routed(hub, caller, ticket, byte, wanted),
         Call::Next(c, next) => {
             let Caller { me, receipts } = caller;
             hub.next_out(me, c, receipts) == Ok(next)
@@ -184,11 +190,11 @@ fn is_answered<A: Allocator + Copy, C: RouterCore<A>, L: Ledger + Named>(
             hub.reader_done(link);
             hub.closing() == closing
         }
-    })
+    }
 }
 
 /// Whether the callers have so many receipts each, in order, that stand in the history.
-fn have_receipts<A: Allocator, L: Ledger + Named>(
+pub(crate) fn have_receipts<A: Allocator, L: Ledger + Named>(
     callers: &[Caller<L, A>],
     counts: &[usize],
     history: &[Step<A>],
@@ -203,7 +209,7 @@ fn have_receipts<A: Allocator, L: Ledger + Named>(
 }
 
 /// The lines of these steps.
-pub(crate) fn lines_of(alloc: Global, steps: &[Step]) -> Result<Vec<u8>, Fail> {
+fn lines_of<A: Allocator + Copy>(alloc: A, steps: &[Step<A>]) -> Result<Vec<u8, A>, AllocError> {
     let mut lines = Vec::new(alloc);
     for step in steps {
         push_step(&mut lines, step)?;
@@ -211,13 +217,12 @@ pub(crate) fn lines_of(alloc: Global, steps: &[Step]) -> Result<Vec<u8>, Fail> {
     Ok(lines)
 }
 
-/// What a run left: whether each answer was the wanted one, and the actors got as many receipts as are wanted, which stand in
-/// the history; the book, and the history.
-#[derive(Drop)]
-struct Worked<A: Allocator> {
-    is_right: bool,
-    book: u64,
-    history: Vec<Step<A>, A>,
+/// Whether these are the lines of these steps.
+pub(crate) fn are_lines<A: Allocator + Copy>(alloc: A, steps: &[Step<A>], wanted: &str) -> bool {
+    match lines_of(alloc, steps) {
+        Ok(lines) => lines.as_slice() == wanted.as_bytes(),
+        Err(_) => false,
+    }
 }
 
 /// Makes all calls: whether each answer was the wanted one.
@@ -225,16 +230,16 @@ fn are_answered<A: Allocator + Copy, C: RouterCore<A>, L: Ledger + Named>(
     hub: &mut Hub<C, L, A>,
     callers: &mut [Caller<L, A>],
     calls: &[(usize, Call)],
-) -> Result<bool, Fail> {
+) -> bool {
     for (who, call) in calls {
         let Some(caller) = callers.get_mut(*who) else {
-            return Ok(false);
+            return false;
         };
-        if !is_answered(hub, caller, *call)? {
-            return Ok(false);
+        if !is_answered(hub, caller, *call) {
+            return false;
         }
     }
-    Ok(true)
+    true
 }
 
 /// A service of links of these roles and one worker that makes at most so many steps, with its actors.
@@ -255,80 +260,77 @@ pub(crate) fn service_of<A: Allocator + Copy, C: Historian<A> + Drop, L: Ledger 
     Service::<C, L, A>::new(alloc, unopened, &config, roles, 1)
 }
 
-/// The calls of a run of two plain links and one worker.
+/// A run: its calls, and what it must leave.
+#[derive(Clone, Copy)]
+struct Sample<'a> {
+    calls: &'a [(usize, Call)],
+    /// How many receipts each actor gets.
+    counts: &'a [usize],
+    book: u64,
+    /// The lines of its steps.
+    steps: &'a str,
+}
+
+/// Whether the calls are answered as they must, and leave the book, the steps and receipts that stand in the history.
+fn is_worked<A: Allocator + Copy, C: Historian<A> + Drop, L: Ledger + Named>(
+    alloc: A,
+    mut hub: Hub<C, L, A>,
+    mut callers: Vec<Caller<L, A>, A>,
+    sample: &Sample<'_>,
+) -> bool {
+    let are_answered = are_answered(&mut hub, callers.as_mut_slice(), sample.calls);
+    let has_book = hub.book() == sample.book;
+    let history = hub.into_router().into_history();
+    let steps = history.as_slice();
+    let have_receipts = have_receipts(callers.as_slice(), sample.counts, steps);
+    are_answered && has_book && have_receipts && are_lines(alloc, steps, sample.steps)
+}
+
+/// Whether a run of two plain links and one worker does all that.
 fn work<A: Allocator + Copy, C: Historian<A> + Drop, L: Ledger + Named>(
     alloc: A,
     unopened: Unopened<A>,
-    calls: &[(usize, Call)],
-    counts: &[usize],
-) -> Result<Worked<A>, Fail>
+    sample: &Sample<'_>,
+) -> bool
     requires name { (unopened.blank.name ≡ L.name) × (unopened.steps.name ≡ L.growing) }
     requires parts { (unopened.blank.parts ≡ L.parts) × (unopened.blank.parts ≡ 6) }
 {
-    let Ok((service, actors)) = service_of::<A, C, L>(
-        alloc,
-        unopened,
-        100,
-        &[Role::Plain, Role::Plain],
-    ) else {
-        return Err(Fail::from("a service"));
+    let roles = [Role::Plain, Role::Plain];
+    let Ok((service, actors)) = service_of::<A, C, L>(alloc, unopened, 100, &roles) else {
+        return false;
     };
-    let mut hub = service.into_hub();
-    let mut callers = callers_of(alloc, actors)?;
-    let are_answered = are_answered(&mut hub, callers.as_mut_slice(), calls);
-    let book = hub.book();
-    let history = hub.into_router().into_history();
-    let have_receipts = have_receipts(callers.as_slice(), counts, history.as_slice());
-    drop(callers);
-    match are_answered {
-        Ok(are_answered) => Ok(Worked {
-            is_right: are_answered && have_receipts,
-            book,
-            history,
-        }),
-        Err(fail) => {
-            drop(history);
-            Err(fail)
-        }
+    match callers_of(alloc, actors) {
+        Ok(callers) => is_worked(alloc, service.into_hub(), callers, sample),
+        Err(_) => false,
     }
 }
 
-/// The calls on a hub of at most six steps, at the plain router.
-fn work_plain<A: Allocator + Copy>(
-    alloc: A,
-    calls: &[(usize, Call)],
-    counts: &[usize],
-) -> Result<Worked<A>, Fail> {
-    work::<A, PlainRouter<A>, Brand>(alloc, Unopened::new(6), calls, counts)
-}
-
-/// Whether the calls are answered as they must, and leave so many receipts each, this book and the steps of these lines.
-fn is_worked(
-    alloc: Global,
-    calls: &[(usize, Call)],
-    counts: &[usize],
-    book: u64,
-    wanted: &str,
-) -> Result<bool, Fail> {
-    let worked = work_plain(alloc, calls, counts)?;
-    let is_right = worked.is_right && worked.book == book;
-    let lines = lines_of(alloc, worked.history.as_slice());
-    drop(worked);
-    let lines = lines?;
-    let are_wanted = lines.as_slice() == wanted.as_bytes();
-    drop(lines);
-    Ok(is_right && are_wanted)
+/// That run, on a hub of six actors, at the plain router.
+fn work_plain<A: Allocator + Copy>(alloc: A, sample: &Sample<'_>) -> bool {
+    work::<A, PlainRouter<A>, Brand>(alloc, Unopened::new(6), sample)
 }
 
 /// Two plain links connect, the first sends a Ping, and both writers take what there is until the run closes.
 #[test]
 fn a_ping_through_the_lent_hub(rt: HostRuntime) -> Result<(), Fail> {
-    assert!(rt; is_worked(rt.alloc(), &CALLS, &[2, 1, 2, 2, 1, 0], 8, WORKED)?);
+    let sample = Sample {
+        calls: &CALLS,
+        counts: &[2, 1, 2, 2, 1, 0],
+        book: 8,
+        steps: WORKED,
+    };
+    assert!(rt; work_plain(rt.alloc(), &sample));
     Ok(())
 }
 
 #[test]
 fn forged_routes_are_refused(rt: HostRuntime) -> Result<(), Fail> {
-    assert!(rt; is_worked(rt.alloc(), &FORGED_CALLS, &[3, 0, 0, 0, 2, 0], 5, FORGED)?);
+    let sample = Sample {
+        calls: &FORGED_CALLS,
+        counts: &[3, 0, 0, 0, 2, 0],
+        book: 5,
+        steps: FORGED,
+    };
+    assert!(rt; work_plain(rt.alloc(), &sample));
     Ok(())
 }

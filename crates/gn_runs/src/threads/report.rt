@@ -1,172 +1,38 @@
 //! The report of the worked run, and what `flaw` names where a part of it is changed.
 
-ghost use Rattle.std.specs.Prelude.{◌≡◌, ◌+◌, length, IfOk};
+ghost use Rattle.std.specs.Prelude.{◌≡◌, ◌+◌};
 ghost use Rattle.gn_actors.specs.Tallies.{last_place, no_tally, tally_of};
 
 use crate::threads::runs::table_run;
 use gn_actors::Tally;
 use gn_bodies::{ReaderEnd, WriterEnd};
 use gn_fixtures::{PING, ping};
-use gn_links::{MemoryLink, NoGate};
+use gn_links::{MemoryLink, MemoryReader, MemoryWriter, NoGate};
 use gn_report::*;
 use gn_rules::{Event, Receipt, Reply, Stats, Step};
 use gn_run_fixtures::a_report;
 use gn_shake::Role;
 use gn_trail::Trail;
-use std::alloc::Global;
+use std::alloc::{AllocError, Global};
 use std::sync::Wait;
 use std::test::Fail;
 use std::thread::Threads;
 
-/// What the actors of a run of one link and one worker did, step by step.
-#[derive(Drop)]
-struct Steps {
-    history: Vec<Step>,
-    reader: Vec<Receipt>,
-    writer: Vec<Receipt>,
-    worker: Vec<Receipt>,
-}
+/// The report of the worked run.
+type Worked = Report<MemoryReader, MemoryWriter>;
 
-/// The steps of a run of a link that sends one Ping.
-fn worked<R: Threads + Wait + Sync>(rt: &R, alloc: Global) -> Result<Steps, Fail> {
+/// The report of a run of a link that sends one Ping.
+fn worked<R: Threads + Wait + Sync>(rt: &R, alloc: Global) -> Result<Worked, Fail> {
     let link = MemoryLink::new(Role::Plain, PING.to_vec(alloc)?, 4096);
-    let ran = table_run(rt, alloc, vec![in alloc; link]?, 1, &NoGate);
-    let Report {
-        history,
-        mut links,
-        mut workers,
-        house,
-        ..
-    } = a_report(ran)?;
-    drop(house);
-    let first = links.pop().zip(workers.pop());
-    drop(links);
-    drop(workers);
-    let Some((link, worker)) = first else {
-        drop(history);
-        return Err("one link and one worker".into());
-    };
-    let LinkReport {
-        reader_receipts,
-        reader,
-        writer_receipts,
-        writer,
-        ..
-    } = link;
-    drop(reader);
-    drop(writer);
-    Ok(Steps {
-        history,
-        reader: reader_receipts,
-        writer: writer_receipts,
-        worker,
-    })
+    a_report(table_run(rt, alloc, vec![in alloc; link]?, 1, &NoGate))
 }
 
-/// Adds a step of an actor to a history, and gives its receipt.
-fn add(
-    alloc: Global,
-    history: &mut Vec<Step>,
-    index: u32,
-    actor: u32,
-    event: Event,
-    reply: Reply,
-) -> Result<Receipt, Fail> {
-    let receipt = Receipt {
-        index,
-        event: event.copy()?,
-        reply: reply.copy(alloc)?,
-    };
-    let step = Step {
-        actor,
-        event,
-        reply,
-    };
-    match history.push(step) {
-        Ok(()) => Ok(receipt),
-        Err(back) => {
-            drop(back);
-            drop(receipt);
-            Err("room for a step".into())
-        }
+/// Whom `flaw` names in the report of a run of one plain link; nobody's number, where there isn't one link.
+fn flaw_in<Rd, W>(report: &Report<Rd, W>) -> Option<u32> {
+    if report.links.len() != 1 {
+        return Some(u32::MAX);
     }
-}
-
-/// Adds a step of the reader, and its receipt.
-fn read(
-    alloc: Global,
-    steps: &mut Steps,
-    index: u32,
-    event: Event,
-    reply: Reply,
-) -> Result<(), Fail> {
-    let receipt = add(alloc, &mut steps.history, index, 0, event, reply)?;
-    steps.reader.push(receipt)?;
-    Ok(())
-}
-
-/// The reader connects, admits a Ping and closes.
-fn read_a_ping(alloc: Global, steps: &mut Steps) -> Result<(), Fail> {
-    read(alloc, steps, 0, Event::Connect, Reply::Connected(1))?;
-    let admit = Event::Admit(1, ping(0xa1, 7, 0)?);
-    read(alloc, steps, 1, admit, Reply::Admitted(0))?;
-    read(alloc, steps, 2, Event::Close(1), Reply::Closed(0))
-}
-
-/// The report of these steps, with these ends.
-fn report(
-    alloc: Global,
-    steps: Steps,
-    reader_end: ReaderEnd,
-    writer_end: WriterEnd,
-) -> Result<Report<(), ()>, Fail>
-    ensures { IfOk result (λ r. length r.links.items ≡ 1) }
-{
-    let Steps {
-        history,
-        reader,
-        writer,
-        worker,
-    } = steps;
-    let link = LinkReport {
-        conn: conn_of(reader.as_slice()),
-        reader_end,
-        reader_receipts: reader,
-        reader: (),
-        writer_end,
-        writer_receipts: writer,
-        writer: (),
-    };
-    let Ok(workers) = vec![in alloc; worker] else {
-        drop(history);
-        drop(link);
-        return Err("a list of workers".into());
-    };
-    let Ok(links) = vec![in alloc; link] else {
-        drop(history);
-        drop(workers);
-        return Err("a list of links".into());
-    };
-    Ok(Report {
-        history,
-        links,
-        workers,
-        house: Vec::new(alloc),
-        stats: Stats::new(),
-    })
-}
-
-/// Whom `flaw` names in the report of these steps, with these ends.
-fn flaw_of(
-    alloc: Global,
-    steps: Steps,
-    reader_end: ReaderEnd,
-    writer_end: WriterEnd,
-) -> Result<Option<u32>, Fail> {
-    let report = report(alloc, steps, reader_end, writer_end)?;
-    let flaw = report.flaw(&[Role::Plain]);
-    drop(report);
-    Ok(flaw)
+    report.flaw(&[Role::Plain])
 }
 
 /// A change of the worked run: whether its worker has no receipts, and how its link's bodies ended.
@@ -206,79 +72,138 @@ const CHANGES: [Change; 4] = [
     },
 ];
 
+/// Changes how the bodies of these links ended.
+fn change_ends<Rd, W>(links: &mut [LinkReport<Rd, W>], change: &Change) {
+    if let Some(link) = links.first_mut() {
+        link.reader_end = change.read;
+        link.writer_end = change.wrote;
+    }
+}
+
+/// Takes the first worker's receipts away.
+fn empty(workers: &mut [Vec<Receipt>]) {
+    if let Some(receipts) = workers.first_mut() {
+        receipts.clear();
+    }
+}
+
 /// Whom `flaw` names in the worked run, changed so.
 fn flaw_after<R: Threads + Wait + Sync>(
     rt: &R,
     alloc: Global,
     change: &Change,
 ) -> Result<Option<u32>, Fail> {
-    let mut steps = worked(rt, alloc)?;
+    let mut report = worked(rt, alloc)?;
+    change_ends(report.links.as_mut_slice(), change);
     if change.is_emptied {
-        steps.worker.clear();
+        empty(report.workers.as_mut_slice());
     }
-    flaw_of(alloc, steps, change.read, change.wrote)
+    Ok(flaw_in(&report))
+}
+
+/// The first change after which `flaw` names another actor than it must.
+fn wrong_change<R: Threads + Wait + Sync>(rt: &R, alloc: Global) -> Result<Option<usize>, Fail> {
+    for (i, change) in CHANGES.iter().enumerate() {
+        if flaw_after(rt, alloc, change)? != change.actor {
+            return Ok(Some(i));
+        }
+    }
+    Ok(None)
 }
 
 #[test]
 fn a_changed_part_of_the_worked_run_names_its_actor(rt: HostRuntime) -> Result<(), Fail> {
-    for change in CHANGES.iter() {
-        assert_eq!(rt; flaw_after(&rt, rt.alloc(), change)?, change.actor);
-    }
+    assert_eq!(rt; wrong_change(&rt, rt.alloc())?, None);
     Ok(())
 }
 
-/// These steps, and one of an actor that the run doesn't have.
-fn with_a_stranger(alloc: Global, mut steps: Steps) -> Result<Steps, Fail> {
-    let added = add(
-        alloc,
-        &mut steps.history,
-        5,
-        4,
-        Event::Connect,
-        Reply::Connected(2),
-    );
-    match added {
-        Ok(receipt) => {
-            drop(receipt);
-            Ok(steps)
-        }
-        Err(fail) => {
-            drop(steps);
-            Err(fail)
-        }
-    }
+/// Whom `flaw` names in the worked run with a step of an actor that it doesn't have.
+fn flaw_with_a_stranger<R: Threads + Wait + Sync>(
+    rt: &R,
+    alloc: Global,
+) -> Result<Option<u32>, Fail> {
+    let mut report = worked(rt, alloc)?;
+    let _ = report.history.push(Step {
+        actor: 4,
+        event: Event::Connect,
+        reply: Reply::Connected(2),
+    });
+    Ok(flaw_in(&report))
 }
 
 #[test]
 fn the_house_is_named_for_a_stranger(rt: HostRuntime) -> Result<(), Fail> {
-    let steps = with_a_stranger(rt.alloc(), worked(&rt, rt.alloc())?)?;
-    let flaw = flaw_of(rt.alloc(), steps, ReaderEnd::Bytes, WriterEnd::Drained)?;
-    assert_eq!(rt; flaw, Some(3));
+    assert_eq!(rt; flaw_with_a_stranger(&rt, rt.alloc())?, Some(3));
     Ok(())
 }
 
-/// What a link's reader did that connected, admitted a Ping and closed; nobody else did anything.
-fn unrouted(alloc: Global) -> Result<Steps, Fail> {
-    let mut steps = Steps {
-        history: Vec::new(alloc),
-        reader: Vec::new(alloc),
-        writer: Vec::new(alloc),
-        worker: Vec::new(alloc),
+/// The receipt of a reader that connects, admits a Ping and closes, at this index. None where there is no Ping.
+fn read_at(index: u32) -> Option<Receipt> {
+    let (event, reply) = match index {
+        0 => (Event::Connect, Reply::Connected(1)),
+        1 => (Event::Admit(1, ping(0xa1, 7, 0).ok()?), Reply::Admitted(0)),
+        _ => (Event::Close(1), Reply::Closed(0)),
     };
-    match read_a_ping(alloc, &mut steps) {
-        Ok(()) => Ok(steps),
-        Err(fail) => {
-            drop(steps);
-            Err(fail)
-        }
+    Some(Receipt {
+        index,
+        event,
+        reply,
+    })
+}
+
+/// What the reader was answered.
+fn read(alloc: Global) -> Result<Vec<Receipt>, AllocError> {
+    let mut receipts = Vec::new(alloc);
+    for index in 0..3 {
+        receipts.push(read_at(index).ok_or(AllocError)?)?;
     }
+    Ok(receipts)
+}
+
+/// The steps that it made.
+fn steps(alloc: Global) -> Result<Vec<Step>, AllocError> {
+    let mut history = Vec::new(alloc);
+    for receipt in read(alloc)? {
+        let Receipt { event, reply, .. } = receipt;
+        history.push(Step {
+            actor: 0,
+            event,
+            reply,
+        })?;
+    }
+    Ok(history)
+}
+
+/// What a link did whose reader did that, and whose writer did nothing.
+fn unrouted_link(alloc: Global) -> Result<LinkReport<(), ()>, AllocError> {
+    let reader_receipts = read(alloc)?;
+    Ok(LinkReport {
+        conn: conn_of(reader_receipts.as_slice()),
+        reader_end: ReaderEnd::ReadFailed,
+        reader_receipts,
+        reader: (),
+        writer_end: WriterEnd::Closed,
+        writer_receipts: Vec::new(alloc),
+        writer: (),
+    })
+}
+
+/// Whom `flaw` names in the report of a run of that link, whose worker did nothing.
+fn flaw_of_unrouted(alloc: Global) -> Result<Option<u32>, Fail> {
+    let link = unrouted_link(alloc)?;
+    let report = Report {
+        history: steps(alloc)?,
+        links: vec![in alloc; link]?,
+        workers: vec![in alloc; Vec::new(alloc)]?,
+        house: Vec::new(alloc),
+        stats: Stats::new(),
+    };
+    Ok(flaw_in(&report))
 }
 
 #[test]
 fn the_house_is_named_for_a_ticket(rt: HostRuntime) -> Result<(), Fail> {
-    let steps = unrouted(rt.alloc())?;
-    let flaw = flaw_of(rt.alloc(), steps, ReaderEnd::ReadFailed, WriterEnd::Closed)?;
-    assert_eq!(rt; flaw, Some(3));
+    assert_eq!(rt; flaw_of_unrouted(rt.alloc())?, Some(3));
     Ok(())
 }
 

@@ -1,7 +1,7 @@
 //! Small runs of many threads over memory links.
 
 use gn_bodies::WriterEnd;
-use gn_fixtures::{OWN, PING};
+use gn_fixtures::OWN;
 use gn_links::{Gate, Link, MemoryLink, NoGate};
 use gn_report::Report;
 use gn_rules::Config;
@@ -10,8 +10,8 @@ use gn_shake::Role;
 use gn_table_router::TableRouter;
 use gn_threads::{RunFault, run};
 use std::alloc::{AllocError, Allocator, Global};
+use std::process::Abort;
 use std::sync::Wait;
-use std::sync::atomic::Ordering;
 use std::test::Fail;
 use std::thread::Threads;
 
@@ -95,60 +95,52 @@ fn receipts_of<Rd, W>(report: &Report<Rd, W>) -> usize {
     count
 }
 
-/// Whether a run of six links of a hundred Pings has two workers of 300 receipts each, and each step its receipt.
-fn is_shared<R: Threads + Wait + Sync>(
-    rt: &R,
-    alloc: Global,
-    meeting: &Meeting,
-) -> Result<bool, Fail> {
-    let links = plain_links(alloc, 6, 100)?;
-    let report = a_report(table_run(rt, alloc, links, 2, meeting))?;
-    let is_shared = are_even(&report) && receipts_of(&report) == report.history.len();
-    drop(report);
-    Ok(is_shared)
-}
-
-#[test]
-fn two_workers_meet(rt: HostRuntime) -> Result<(), Fail> {
+/// Fails unless a run of six links of a hundred Pings has two workers of 300 receipts each who meet at each route, and each
+/// step its receipt.
+fn share<R: Threads + Wait + Sync + Abort>(rt: &R, alloc: Global) -> Result<(), Fail> {
     let meeting = Meeting::new();
-    let is_shared = is_shared(&rt, rt.alloc(), &meeting)?;
+    let links = plain_links(alloc, 6, 100)?;
+    let report = a_report(table_run(rt, alloc, links, 2, &meeting))?;
+    let is_shared = are_even(&report) & (receipts_of(&report) == report.history.len());
+    drop(report);
     assert!(rt; is_shared && have_met(&meeting, 300));
     Ok(())
 }
 
-/// How the writer of a link ended.
-fn writer_end_of<Rd, W>(report: &Report<Rd, W>, link: usize) -> Option<WriterEnd> {
-    Some(report.links.get(link)?.writer_end)
+#[test]
+fn two_workers_meet(rt: HostRuntime) -> Result<(), Fail> {
+    share(&rt, rt.alloc())
+}
+
+/// How the writers of two links ended.
+fn writer_ends<Rd, W>(report: &Report<Rd, W>) -> Option<(WriterEnd, WriterEnd)> {
+    match report.links.as_slice() {
+        [first, second] => Some((first.writer_end, second.writer_end)),
+        _ => None,
+    }
 }
 
 /// Two links of one Ping each, to the first of which no byte can be written.
 fn half_broken(alloc: Global) -> Result<Vec<MemoryLink>, AllocError> {
-    let mut links = Vec::new(alloc);
-    links.push(link_of(alloc, 0, 1)?.failing(None, Some(1)))?;
-    links.push(link_of(alloc, 1, 1)?)?;
-    Ok(links)
+    let first = link_of(alloc, 0, 1)?.failing(None, Some(1));
+    let second = link_of(alloc, 1, 1)?;
+    Ok(vec![in alloc; first, second]?)
 }
 
-/// How the writers of both end.
-fn ends_of_half_broken<R: Threads + Wait + Sync>(
-    rt: &R,
-    alloc: Global,
-) -> Result<[Option<WriterEnd>; 2], Fail> {
+/// Fails unless a write fails on the first of them alone.
+fn break_first<R: Threads + Wait + Sync + Abort>(rt: &R, alloc: Global) -> Result<(), Fail> {
     let links = half_broken(alloc)?;
     let report = a_report(table_run(rt, alloc, links, 1, &NoGate))?;
-    let ends = [writer_end_of(&report, 0), writer_end_of(&report, 1)];
+    let ends = writer_ends(&report);
     drop(report);
-    Ok(ends)
+    assert_eq!(rt; ends, Some((WriterEnd::WriteFailed, WriterEnd::Drained)));
+    Ok(())
 }
 
 /// Each link's own Pong is queued to it, whatever the schedule.
 #[test]
 fn writes_fail_on_their_own_link(rt: HostRuntime) -> Result<(), Fail> {
-    assert_eq!(rt;
-        ends_of_half_broken(&rt, rt.alloc())?,
-        [Some(WriterEnd::WriteFailed), Some(WriterEnd::Drained)]
-    );
-    Ok(())
+    break_first(&rt, rt.alloc())
 }
 
 /// A plain link of so many Pings, read byte by byte; or one that can't be split, where it has no meeting.
@@ -172,32 +164,26 @@ fn paced_links<'a>(
     first: &'a Meeting,
     second: Option<&'a Meeting>,
 ) -> Result<Vec<PacedLink<'a, MemoryLink>>, AllocError> {
-    let mut links = Vec::new(alloc);
-    links.push(paced_link(alloc, 0, count, Some(first))?)?;
-    links.push(paced_link(alloc, 1, count, second)?)?;
-    Ok(links)
+    let first = paced_link(alloc, 0, count, Some(first))?;
+    let second = paced_link(alloc, 1, count, second)?;
+    Ok(vec![in alloc; first, second]?)
 }
 
-/// How many Pings a run routes of two such links of ten each.
-fn routed_in_step<R: Threads + Wait + Sync>(
-    rt: &R,
-    alloc: Global,
-    meeting: &Meeting,
-) -> Result<u32, Fail> {
-    let links = paced_links(alloc, 10, meeting, Some(meeting))?;
+/// Fails unless a run of two such links of ten Pings each routes all of them, and their readers meet at each read.
+fn read_in_step<R: Threads + Wait + Sync + Abort>(rt: &R, alloc: Global) -> Result<(), Fail> {
+    let meeting = Meeting::new();
+    let links = paced_links(alloc, 10, &meeting, Some(&meeting))?;
     let report = a_report(table_run(rt, alloc, links, 1, &NoGate))?;
     let routed = report.stats.routed;
     drop(report);
-    Ok(routed)
+    assert!(rt; routed == 20 && have_met(&meeting, 231));
+    Ok(())
 }
 
 /// Ten Pings of 23 bytes, and the read that finds no more, on both sides alike: nobody waits for one that has ended.
 #[test]
 fn two_readers_meet(rt: HostRuntime) -> Result<(), Fail> {
-    let meeting = Meeting::new();
-    let routed = routed_in_step(&rt, rt.alloc(), &meeting)?;
-    assert!(rt; routed == 20 && have_met(&meeting, 231));
-    Ok(())
+    read_in_step(&rt, rt.alloc())
 }
 
 /// The fault of a run by so many workers over two links, of which the second can't be split.
@@ -211,15 +197,24 @@ fn fault_by<R: Threads + Wait + Sync>(
     Ok(table_run(rt, alloc, links, workers, &NoGate).err())
 }
 
+/// The numbers of workers by which no run begins over such links, and its fault.
+const NO_RUNS: [(u32, RunFault); 3] = [
+    (0, RunFault::BadWorkers),
+    (65, RunFault::BadWorkers),
+    (1, RunFault::Link(1)),
+];
+
+/// Fails at the first of these by which a run has another fault.
+fn begin_none<R: Threads + Wait + Sync + Abort>(rt: &R, alloc: Global) -> Result<(), Fail> {
+    for (workers, fault) in NO_RUNS {
+        let found = fault_by(rt, alloc, workers)?;
+        assert_eq!(rt; found, Some(fault), "{workers} workers");
+    }
+    Ok(())
+}
+
 /// A run has 1 to 64 workers, and names a link that can't be split.
 #[test]
 fn runs_that_do_not_begin(rt: HostRuntime) -> Result<(), Fail> {
-    for (workers, fault) in [
-        (0, RunFault::BadWorkers),
-        (65, RunFault::BadWorkers),
-        (1, RunFault::Link(1)),
-    ] {
-        assert_eq!(rt; fault_by(&rt, rt.alloc(), workers)?, Some(fault));
-    }
-    Ok(())
+    begin_none(&rt, rt.alloc())
 }

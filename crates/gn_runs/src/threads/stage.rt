@@ -1,15 +1,16 @@
 //! Runs of whole stages.
 
-ghost use Rattle.std.specs.Prelude.{◌≡◌, ◌+◌, ◌-◌, ◌^◌, ◌<◌, ◌≤◌, true, IfOk};
+ghost use Rattle.std.specs.Prelude.{◌≡◌, ◌+◌, ◌-◌, ◌^◌, ◌<◌, true, IfOk};
 
 use gn_fixtures::ping;
 use gn_stage::*;
 use std::alloc::{AllocError, Allocator, Global};
 use std::marker::Brand;
 use std::sync::Wait;
+use std::sync::atomic::{AtomicU32, Ordering};
 use std::test::Fail;
 use std::thread;
-use std::thread::{JoinHandle, Threads};
+use std::thread::Threads;
 use std::time::{Clock, Duration};
 
 /// A Ping with this ticket.
@@ -18,14 +19,6 @@ fn job<A: Allocator>(ticket: u32) -> Result<Job<A>, AllocError> {
         Ok(descriptor) => Ok(Job { ticket, descriptor }),
         Err(_) => Err(AllocError),
     }
-}
-
-/// Adds the tickets of these jobs.
-fn add_tickets(tickets: &mut Vec<u32>, jobs: &[Job]) -> Result<(), AllocError> {
-    for job in jobs {
-        tickets.push(job.ticket)?;
-    }
-    Ok(())
 }
 
 /// Whether a job of this ticket is put.
@@ -53,56 +46,6 @@ pub(crate) fn put_some<A: Allocator, S: Site, R: Wait>(
     }
 }
 
-/// Settles a stage again, with an intake that has come home.
-fn settled_again<S: Site, R: Wait>(
-    rt: &R,
-    alloc: Global,
-    back: Unsettled<S>,
-    late: IntakeHome<S>,
-) -> Option<(StageFault, Settled)> {
-    let Unsettled {
-        fault,
-        desk,
-        mut intakes,
-        outlets,
-    } = back;
-    let kept = intakes.push(late);
-    let is_kept = kept.is_ok();
-    drop(kept);
-    if !is_kept {
-        drop(desk);
-        drop(intakes);
-        drop(outlets);
-        return None;
-    }
-    Some((fault, desk.settle(rt, alloc, intakes, outlets).ok()?))
-}
-
-/// The fault of a stage that isn't settled by these ends, and what is settled of it once another intake has come home.
-fn settled_late<S: Site, R: Wait>(
-    rt: &R,
-    alloc: Global,
-    desk: Desk<S>,
-    intake: IntakeHome<S>,
-    outlet: OutletHome<S>,
-    late: IntakeHome<S>,
-) -> Option<(StageFault, Settled)> {
-    let ins = vec![in alloc; intake].ok();
-    let Some((ins, outs)) = ins.zip(vec![in alloc; outlet].ok()) else {
-        drop(desk);
-        drop(late);
-        return None;
-    };
-    match desk.settle(rt, alloc, ins, outs) {
-        Ok(settled) => {
-            drop(settled);
-            drop(late);
-            None
-        }
-        Err(back) => settled_again(rt, alloc, back, late),
-    }
-}
-
 /// The ticket of a job, where there is one.
 pub(crate) fn ticket_of<A: Allocator>(job: Option<Job<A>>) -> Option<u32> {
     let job = job?;
@@ -111,298 +54,402 @@ pub(crate) fn ticket_of<A: Allocator>(job: Option<Job<A>>) -> Option<u32> {
     Some(ticket)
 }
 
-/// Two jobs are put and one is taken. The second intake comes home late: the fault before it does, and what is settled then.
-fn one_thread<S: Site, R: Wait>(
-    rt: &R,
-    alloc: Global,
-    stage: Stage,
-) -> Result<(Option<u32>, StageFault, Settled), AllocError>
-    requires { stage ≡ S.stage }
-{
-    let (mut ins, mut outs, desk) = stage.ends::<S>(alloc, 2, 1)?;
-    let ends = ins.pop().zip(ins.pop()).zip(outs.pop());
-    drop(ins);
-    drop(outs);
-    let Some(((late, mut intake), mut outlet)) = ends else {
-        drop(desk);
-        return Err(AllocError);
-    };
-    put_some(rt, &mut intake, 0, 2);
-    let first = ticket_of(outlet.take(rt));
-    let (intake, outlet, late) = (intake.finish(), outlet.finish(), late.finish());
-    match settled_late(rt, alloc, desk, intake, outlet, late) {
-        Some((fault, settled)) => Ok((first, fault, settled)),
-        None => Err(AllocError),
+/// These intakes at home, as many as there is memory for.
+fn intakes_home<S: Site>(alloc: Global, intakes: Vec<Intake<S>>) -> Vec<IntakeHome<S>> {
+    let mut homes = Vec::new(alloc);
+    for intake in intakes {
+        let _ = homes.push(intake.finish());
+    }
+    homes
+}
+
+/// These outlets at home, as many as there is memory for.
+fn outlets_home<S: Site>(alloc: Global, outlets: Vec<Outlet<S>>) -> Vec<OutletHome<S>> {
+    let mut homes = Vec::new(alloc);
+    for outlet in outlets {
+        let _ = homes.push(outlet.finish());
+    }
+    homes
+}
+
+/// Whether the jobs that are left have these tickets, in order.
+fn are_left(jobs: &[Job], tickets: &[u32]) -> bool {
+    for (i, job) in jobs.iter().enumerate() {
+        if tickets.get(i) != Some(&job.ticket) {
+            return false;
+        }
+    }
+    jobs.len() == tickets.len()
+}
+
+/// Whether so many jobs were put and taken, and those of these tickets are left.
+fn is_settled_so(settled: &Settled, put: u64, taken: u64, tickets: &[u32]) -> bool {
+    settled.put == put && settled.taken == taken && are_left(settled.drained.as_slice(), tickets)
+}
+
+/// The first intake puts so many jobs.
+fn put_by_first<S: Site, R: Wait>(rt: &R, intakes: &mut [Intake<S>], count: u32) {
+    if let Some(intake) = intakes.first_mut() {
+        put_some(rt, intake, 0, count);
     }
 }
 
-/// That run, with the stage's mark made here.
-fn in_one_thread<R: Wait>(
+/// The first intake puts two jobs: what ticket the first outlet takes.
+fn put_two_and_take<S: Site, R: Wait>(
+    rt: &R,
+    intakes: &mut [Intake<S>],
+    outlets: &mut [Outlet<S>],
+) -> Option<u32> {
+    put_by_first(rt, intakes, 2);
+    ticket_of(outlets.first_mut()?.take(rt))
+}
+
+/// Whether a stage that missed an intake is settled with it, and leaves the second of two jobs.
+fn is_settled_again<S: Site, R: Wait>(
     rt: &R,
     alloc: Global,
-) -> Result<(Option<u32>, StageFault, Settled), AllocError> {
+    back: Unsettled<S>,
+    late: Option<IntakeHome<S>>,
+) -> bool {
+    let Unsettled {
+        fault,
+        desk,
+        mut intakes,
+        outlets,
+    } = back;
+    if let Some(late) = late {
+        let _ = intakes.push(late);
+    }
+    match desk.settle(rt, alloc, intakes, outlets) {
+        Ok(settled) => fault == StageFault::Missing && is_settled_so(&settled, 2, 1, &[1]),
+        Err(back) => {
+            drop(back);
+            false
+        }
+    }
+}
+
+/// Whether a stage misses the last of these intakes, and is settled once that has come home, too.
+fn is_settled_late<S: Site, R: Wait>(
+    rt: &R,
+    alloc: Global,
+    desk: Desk<S>,
+    mut intakes: Vec<IntakeHome<S>>,
+    outlets: Vec<OutletHome<S>>,
+) -> bool {
+    let late = intakes.pop();
+    match desk.settle(rt, alloc, intakes, outlets) {
+        Ok(settled) => {
+            drop(settled);
+            drop(late);
+            false
+        }
+        Err(back) => is_settled_again(rt, alloc, back, late),
+    }
+}
+
+/// Two jobs are put and one is taken. The second intake comes home late: whether the stage misses it, and is settled
+/// then.
+fn one_thread<S: Site, R: Wait>(rt: &R, alloc: Global, stage: Stage) -> Result<bool, AllocError>
+    requires { stage ≡ S.stage }
+{
+    let (mut intakes, mut outlets, desk) = stage.ends::<S>(alloc, 2, 1)?;
+    let first = put_two_and_take(rt, intakes.as_mut_slice(), outlets.as_mut_slice());
+    let (intakes, outlets) = (intakes_home(alloc, intakes), outlets_home(alloc, outlets));
+    Ok(is_settled_late(rt, alloc, desk, intakes, outlets) && first == Some(0))
+}
+
+/// That run, with the stage's mark made here.
+fn in_one_thread<R: Wait>(rt: &R, alloc: Global) -> Result<bool, AllocError> {
     one_thread::<Brand, R>(rt, alloc, Stage::new(alloc, 2)?)
-}
-
-/// Whether two jobs were put, one was taken, and this one is left.
-fn has_left(settled: &Settled, ticket: u32) -> bool {
-    let is_left = match settled.drained.as_slice() {
-        [job] => job.ticket == ticket,
-        _ => false,
-    };
-    settled.put == 2 && settled.taken == 1 && is_left
-}
-
-/// Whether that run takes the first job, misses an intake, and leaves the second job.
-fn is_settled<R: Wait>(rt: &R, alloc: Global) -> Result<bool, AllocError> {
-    let (first, fault, settled) = in_one_thread(rt, alloc)?;
-    let has_left = has_left(&settled, 1);
-    drop(settled);
-    Ok(first == Some(0) && fault == StageFault::Missing && has_left)
 }
 
 #[test]
 fn stage_settles(rt: HostRuntime) -> Result<(), Fail> {
-    assert!(rt; is_settled(&rt, rt.alloc())?);
+    assert!(rt; in_one_thread(&rt, rt.alloc())?);
     Ok(())
 }
 
-/// Puts the jobs of so many tickets from the first on, and finishes.
+/// How often the job of each of so many tickets was seen, and last how often one of any other: none was yet.
+fn unseen(alloc: Global, count: u32) -> Result<Vec<AtomicU32>, AllocError> {
+    let mut seen = Vec::new(alloc);
+    for _ in 0..=count {
+        seen.push(AtomicU32::new(0))?;
+    }
+    Ok(seen)
+}
+
+/// The job of this ticket is seen once more.
+fn see(seen: &[AtomicU32], ticket: u32) {
+    if let Some(times) = seen.get(ticket as usize).or(seen.last()) {
+        times.fetch_add(1, Ordering::SeqCst);
+    }
+}
+
+/// Whether the jobs of the first so many tickets were seen once each, and no others.
+fn are_seen_once(seen: &[AtomicU32], count: usize) -> bool {
+    for (i, times) in seen.iter().enumerate() {
+        let is_wanted = i < count;
+        if times.load(Ordering::SeqCst) != u32::from(is_wanted) {
+            return false;
+        }
+    }
+    count < seen.len()
+}
+
+/// Puts so many jobs, under tickets that no intake has had yet, and finishes.
 fn put_all<S: Site, R: Wait>(
     rt: &R,
     mut intake: Intake<S>,
-    first: u32,
+    tickets: &AtomicU32,
     count: u32,
 ) -> IntakeHome<S> {
+    let first = tickets.fetch_add(count, Ordering::SeqCst);
     put_some(rt, &mut intake, first, count);
     intake.finish()
 }
 
-/// Takes jobs until there are no more: their tickets, in order.
-fn take_all<S: Site, R: Wait>(
-    rt: &R,
-    alloc: Global,
-    mut outlet: Outlet<S>,
-) -> (OutletHome<S>, Vec<u32>) {
-    let mut tickets = Vec::new(alloc);
+/// Takes jobs until there are no more, and finishes.
+fn take_all<S: Site, R: Wait>(rt: &R, mut outlet: Outlet<S>, seen: &[AtomicU32]) -> OutletHome<S> {
     for _ in rt.forever() {
-        let Some(ticket) = ticket_of(outlet.take(rt)) else {
-            break;
-        };
-        if tickets.push(ticket).is_err() {
-            break;
+        match ticket_of(outlet.take(rt)) {
+            Some(ticket) => see(seen, ticket),
+            None => break,
         }
     }
-    (outlet.finish(), tickets)
+    outlet.finish()
 }
 
-/// What these threads give, in order.
-fn joined<T: Drop, R: Threads>(
+/// Each intake puts so many jobs and goes home, in a thread of its own.
+fn all_put<S: Site + Send, R: Threads + Wait + Sync>(
     rt: &R,
-    alloc: Global,
-    threads: Vec<JoinHandle<T>>,
-) -> Result<Vec<T>, AllocError> {
-    let mut all = Vec::new(alloc);
-    for thread in threads {
-        all.push(thread.join(rt))?;
-    }
-    Ok(all)
+    intakes: Vec<Intake<S>>,
+    count: u32,
+) -> Result<Vec<IntakeHome<S>>, AllocError> {
+    let tickets = AtomicU32::new(0);
+    let put = |intake: Intake<S>| put_all(rt, intake, &tickets, count);
+    thread::map_vec(rt, intakes, &put)
 }
 
-/// The outlets that came home, and all that they took.
-fn all_taken<S: Site>(
-    alloc: Global,
-    homes: Vec<(OutletHome<S>, Vec<u32>)>,
-) -> Result<(Vec<OutletHome<S>>, Vec<u32>), AllocError> {
-    let (mut outs, mut tickets) = (Vec::new(alloc), Vec::new(alloc));
-    for (home, taken) in homes {
-        let is_added = tickets.extend_from_slice(taken.as_slice()).is_ok();
-        drop(taken);
-        let kept = outs.push(home);
-        let is_kept = kept.is_ok();
-        drop(kept);
-        if !is_added || !is_kept {
-            drop(outs);
-            drop(tickets);
-            return Err(AllocError);
-        }
-    }
-    Ok((outs, tickets))
+/// Each outlet takes what there is and goes home, in a thread of its own.
+fn all_take<S: Site + Send, R: Threads + Wait + Sync>(
+    rt: &R,
+    outlets: Vec<Outlet<S>>,
+    seen: &[AtomicU32],
+) -> Result<Vec<OutletHome<S>>, AllocError> {
+    let take = |outlet: Outlet<S>| take_all(rt, outlet, seen);
+    thread::map_vec(rt, outlets, &take)
 }
 
-/// The ends of a stage that came home, with what each outlet took.
-type Homes<S> = (Vec<IntakeHome<S>>, Vec<(OutletHome<S>, Vec<u32>)>);
+/// How many jobs were put, taken and drained.
+type Counts = (u64, u64, usize);
 
-/// All that was taken, and what is settled of a stage whose ends came home, where nothing is missing.
-fn settled_of<S: Site, R: Wait>(
+/// What was settled, by the jobs' numbers; those that were left are seen, too.
+fn counts_of(settled: &Settled, seen: &[AtomicU32]) -> Counts {
+    for job in &settled.drained {
+        see(seen, job.ticket);
+    }
+    (settled.put, settled.taken, settled.drained.len())
+}
+
+/// What is settled of a stage whose ends came home, where nothing is missing.
+fn settled_counts<S: Site, R: Wait>(
     rt: &R,
     alloc: Global,
     desk: Desk<S>,
-    homes: Homes<S>,
-) -> Result<(Vec<u32>, Settled), AllocError> {
-    let (ins, outs) = homes;
-    let Ok((outs, tickets)) = all_taken(alloc, outs) else {
-        drop(desk);
-        drop(ins);
-        return Err(AllocError);
-    };
-    match desk.settle(rt, alloc, ins, outs) {
-        Ok(settled) => Ok((tickets, settled)),
+    intakes: Vec<IntakeHome<S>>,
+    outlets: Vec<OutletHome<S>>,
+    seen: &[AtomicU32],
+) -> Option<Counts> {
+    match desk.settle(rt, alloc, intakes, outlets) {
+        Ok(settled) => Some(counts_of(&settled, seen)),
         Err(back) => {
             drop(back);
-            drop(tickets);
-            Err(AllocError)
+            None
         }
     }
 }
 
-/// A thread for each end: each intake puts so many jobs, each outlet takes until there are no more. It gives what was
-/// taken, too.
-fn many_threads<S: Site + Send, R: Threads + Wait + Sync>(
-    rt: &R,
-    alloc: Global,
-    stage: Stage,
-    intakes: u32,
-    outlets: u32,
-    count: u32,
-) -> Result<(Vec<u32>, Settled), AllocError>
-    requires { stage ≡ S.stage }
-{
-    let (ins, outs, desk) = stage.ends::<S>(alloc, intakes, outlets)?;
-    let homes = thread::scope(
-        thread::scope_env(),
-        rt,
-        |scope| -> Result<Homes<S>, AllocError> {
-            let mut taking = Vec::new(alloc);
-            for outlet in outs {
-                taking.push(scope.spawn(move || take_all(rt, alloc, outlet))?)?;
-            }
-            let mut putting = Vec::new(alloc);
-            let mut first = 0u32;
-            for intake in ins {
-                putting.push(scope.spawn(move || put_all(rt, intake, first, count))?)?;
-                first = first.wrapping_add(count);
-            }
-            let put = joined(rt, alloc, putting).ok();
-            put.zip(joined(rt, alloc, taking).ok()).ok_or(AllocError)
-        },
-    );
-    match homes {
-        Ok(homes) => settled_of(rt, alloc, desk, homes),
-        Err(fault) => {
-            drop(desk);
-            Err(fault)
-        }
-    }
-}
-
-/// Whether these are the tickets from 0 on, in order.
-fn are_in_order(tickets: &[u32]) -> bool {
-    for (i, ticket) in tickets.iter().enumerate() {
-        if *ticket as usize != i {
-            return false;
-        }
-    }
-    true
-}
-
-/// How many jobs were put, taken and drained, and whether each ticket from 0 on is there once.
-fn counted<R: Threads + Wait + Sync>(
-    rt: &R,
-    alloc: Global,
+/// A stage of so many jobs at once, with so many ends and so many jobs of each intake, which is run so often.
+struct Row {
+    times: u32,
     capacity: usize,
     intakes: u32,
     outlets: u32,
     count: u32,
-) -> Result<((u64, u64, usize), bool), AllocError>
-    requires { (0 < capacity) × (capacity ≤ 4096) }
+    /// What is counted each time.
+    wanted: Counts,
+}
+
+/// Stages with many ends, one of each kind, and none of one kind or both.
+const ROWS: [Row; 6] = [
+    Row {
+        times: 1,
+        capacity: 2,
+        intakes: 2,
+        outlets: 2,
+        count: 100,
+        wanted: (200, 200, 0),
+    },
+    Row {
+        times: 1,
+        capacity: 1,
+        intakes: 1,
+        outlets: 1,
+        count: 100,
+        wanted: (100, 100, 0),
+    },
+    Row {
+        times: 1,
+        capacity: 4096,
+        intakes: 0,
+        outlets: 2,
+        count: 100,
+        wanted: (0, 0, 0),
+    },
+    Row {
+        times: 1,
+        capacity: 4096,
+        intakes: 2,
+        outlets: 0,
+        count: 100,
+        wanted: (0, 0, 0),
+    },
+    Row {
+        times: 1,
+        capacity: 4096,
+        intakes: 0,
+        outlets: 0,
+        count: 100,
+        wanted: (0, 0, 0),
+    },
+    Row {
+        times: 100,
+        capacity: 1,
+        intakes: 7,
+        outlets: 5,
+        count: 10,
+        wanted: (70, 70, 0),
+    },
+];
+
+/// A thread for each end: each intake puts so many jobs, each outlet takes until there are no more.
+fn many_threads<S: Site + Send, R: Threads + Wait + Sync>(
+    rt: &R,
+    alloc: Global,
+    stage: Stage,
+    row: &Row,
+    seen: &[AtomicU32],
+) -> Result<Option<Counts>, AllocError>
+    requires { stage ≡ S.stage }
 {
-    let stage = Stage::new(alloc, capacity)?;
-    let (mut tickets, settled) = many_threads::<Brand, R>(
-        rt, alloc, stage, intakes, outlets, count,
-    )?;
-    let added = add_tickets(&mut tickets, settled.drained.as_slice());
-    let counts = (settled.put, settled.taken, settled.drained.len());
-    drop(settled);
-    added?;
-    tickets.sort()?;
-    let are_in_order = are_in_order(tickets.as_slice());
-    drop(tickets);
-    Ok((counts, are_in_order))
+    let (intakes, outlets, desk) = stage.ends::<S>(alloc, row.intakes, row.outlets)?;
+    let count = row.count;
+    let (intakes, outlets) = thread::join(
+        rt,
+        move || all_put(rt, intakes, count),
+        move || all_take(rt, outlets, seen),
+    );
+    let (intakes, outlets) = intakes.ok().zip(outlets.ok()).ok_or(AllocError)?;
+    Ok(settled_counts(rt, alloc, desk, intakes, outlets, seen))
+}
+
+/// That run, with the stage's mark made here.
+fn counted<R: Threads + Wait + Sync>(
+    rt: &R,
+    alloc: Global,
+    row: &Row,
+    seen: &[AtomicU32],
+) -> Result<Option<Counts>, AllocError> {
+    if row.capacity == 0 || row.capacity > 4096 {
+        return Err(AllocError);
+    }
+    many_threads::<Brand, R>(rt, alloc, Stage::new(alloc, row.capacity)?, row, seen)
+}
+
+/// Whether a run counts what it should, and each ticket from 0 on is there once.
+fn is_right<R: Threads + Wait + Sync>(
+    rt: &R,
+    alloc: Global,
+    row: &Row,
+) -> Result<bool, AllocError> {
+    let seen = unseen(alloc, row.intakes.wrapping_mul(row.count))?;
+    let counts = counted(rt, alloc, row, seen.as_slice());
+    let (_, taken, drained) = row.wanted;
+    let are_once = are_seen_once(seen.as_slice(), (taken as usize).wrapping_add(drained));
+    drop(seen);
+    Ok(counts? == Some(row.wanted) && are_once)
+}
+
+/// Whether each run of a row is right.
+fn are_right<R: Threads + Wait + Sync>(
+    rt: &R,
+    alloc: Global,
+    row: &Row,
+) -> Result<bool, AllocError> {
+    for _ in 0..row.times {
+        if !is_right(rt, alloc, row)? {
+            return Ok(false);
+        }
+    }
+    Ok(true)
+}
+
+/// The first row of which a run isn't right.
+fn wrong_row<R: Threads + Wait + Sync>(rt: &R, alloc: Global) -> Result<Option<usize>, AllocError> {
+    for (i, row) in ROWS.iter().enumerate() {
+        if !are_right(rt, alloc, row)? {
+            return Ok(Some(i));
+        }
+    }
+    Ok(None)
 }
 
 #[test]
 fn each_job_is_there_once(rt: HostRuntime) -> Result<(), Fail> {
-    for (times, capacity, intakes, outlets, count, want) in [
-        (1, 2, 2, 2, 100, (200, 200, 0)),
-        (1, 1, 1, 1, 100, (100, 100, 0)),
-        (1, 4096, 0, 2, 100, (0, 0, 0)),
-        (1, 4096, 2, 0, 100, (0, 0, 0)),
-        (1, 4096, 0, 0, 100, (0, 0, 0)),
-        (100, 1, 7, 5, 10, (70, 70, 0)),
-    ] {
-        for _ in 0..times {
-            let found = counted(&rt, rt.alloc(), capacity, intakes, outlets, count)?;
-            assert_eq!(rt; found, (want, true));
-        }
-    }
+    assert_eq!(rt; wrong_row(&rt, rt.alloc())?, None);
     Ok(())
 }
 
-/// Puts a job, and gives the ticket of the one that comes back.
-fn put_back<S: Site, R: Wait>(rt: &R, mut intake: Intake<S>) -> Option<u32> {
-    let back = match job(1) {
-        Ok(second) => intake.put(rt, second).err(),
-        Err(_) => None,
-    };
-    drop(intake);
-    ticket_of(back)
+/// The first of these intakes puts the job of ticket 1: the ticket of the one that comes back.
+fn put_back<S: Site, R: Wait>(rt: &R, mut intakes: Vec<Intake<S>>) -> Option<u32> {
+    let intake = intakes.first_mut()?;
+    let second = job(1).ok()?;
+    ticket_of(intake.put(rt, second).err())
 }
 
-/// Finishes an outlet after a while.
-fn finish_late<S: Site, R: Clock>(rt: &R, outlet: Outlet<S>) -> OutletHome<S> {
+/// Finishes the outlets after a while.
+fn finish_late<S: Site, R: Clock>(rt: &R, alloc: Global, outlets: Vec<Outlet<S>>) {
     thread::sleep(rt, Duration::from_millis(100));
-    outlet.finish()
+    drop(outlets_home(alloc, outlets));
 }
 
-/// A thread waits at a full queue of one while the only outlet finishes. It gives the ticket that came back.
+/// A thread waits at a full queue of one while the only outlet finishes: whether the second job comes back.
 fn outlet_leaves<S: Site + Send, R: Threads + Wait + Sync + Clock>(
     rt: &R,
     alloc: Global,
     stage: Stage,
-) -> Result<Option<u32>, AllocError>
+) -> Result<bool, AllocError>
     requires { stage ≡ S.stage }
 {
-    let (mut ins, mut outs, desk) = stage.ends::<S>(alloc, 1, 1)?;
-    let ends = ins.pop().zip(outs.pop());
-    drop(ins);
-    drop(outs);
-    let Some((mut intake, outlet)) = ends else {
-        drop(desk);
-        return Err(AllocError);
-    };
-    put_some(rt, &mut intake, 0, 1);
-    let (back, home) = thread::join(
+    let (mut intakes, outlets, _desk) = stage.ends::<S>(alloc, 1, 1)?;
+    put_by_first(rt, intakes.as_mut_slice(), 1);
+    let (back, ()) = thread::join(
         rt,
-        move || put_back(rt, intake),
-        move || finish_late(rt, outlet),
+        move || put_back(rt, intakes),
+        move || finish_late(rt, alloc, outlets),
     );
-    drop(home);
-    drop(desk);
-    Ok(back)
+    Ok(back == Some(1))
 }
 
 /// That run, with the stage's mark made here.
-fn left<R: Threads + Wait + Sync + Clock>(
-    rt: &R,
-    alloc: Global,
-) -> Result<Option<u32>, AllocError> {
+fn left<R: Threads + Wait + Sync + Clock>(rt: &R, alloc: Global) -> Result<bool, AllocError> {
     outlet_leaves::<Brand, R>(rt, alloc, Stage::new(alloc, 1)?)
 }
 
 #[test]
 fn a_put_that_waits_gets_its_job_back(rt: HostRuntime) -> Result<(), Fail> {
-    assert_eq!(rt; left(&rt, rt.alloc())?, Some(1));
+    assert!(rt; left(&rt, rt.alloc())?);
     Ok(())
 }
 
@@ -422,88 +469,92 @@ fn come_and_go<S: Site, R: Wait>(
     Ok(())
 }
 
-/// Drains a stage again, with an intake that has come home.
-fn drained_again<S: Site, R: Wait>(
+/// Whether a stage that missed an intake is drained once that has come home, and leaves all jobs but the first.
+fn is_drained_again<S: Site, R: Wait>(
     rt: &R,
     alloc: Global,
     back: Undrained<S>,
     late: IntakeHome<S>,
-) -> Option<(StageFault, Settled)> {
+) -> bool {
     let Undrained {
         fault,
         mut reception,
         outlets,
     } = back;
     reception.take_home(late);
-    Some((fault, reception.drain(rt, alloc, outlets).ok()?))
+    match reception.drain(rt, alloc, outlets) {
+        Ok(settled) => fault == StageFault::Missing && is_settled_so(&settled, 4, 1, &[1, 2, 3]),
+        Err(back) => {
+            drop(back);
+            false
+        }
+    }
 }
 
-/// The fault of a stage that isn't drained by this outlet, and what is drained of it once another intake has come home.
-fn drained_late<S: Site, R: Wait>(
+/// Whether a stage misses this intake, and is drained once that has come home.
+fn is_drained_late<S: Site, R: Wait>(
     rt: &R,
     alloc: Global,
     reception: Reception<S>,
-    outlet: OutletHome<S>,
+    outlets: Vec<OutletHome<S>>,
     late: IntakeHome<S>,
-) -> Option<(StageFault, Settled)> {
-    let Ok(outlets) = vec![in alloc; outlet] else {
-        drop(reception);
-        drop(late);
-        return None;
-    };
+) -> bool {
     match reception.drain(rt, alloc, outlets) {
         Ok(settled) => {
             drop(settled);
             drop(late);
-            None
+            false
         }
-        Err(back) => drained_again(rt, alloc, back, late),
+        Err(back) => is_drained_again(rt, alloc, back, late),
     }
 }
 
-/// Two intakes come one after the other, and a third comes home late: what the outlet takes first, the fault, and what is drained.
-fn open_stage<S: Site, R: Wait>(
+/// Two intakes come one after the other, of whose jobs the outlet takes the first. A third one comes last, and is given.
+fn last_that_comes<S: Site, R: Wait>(
     rt: &R,
-    alloc: Global,
-    stage: Stage,
-) -> Result<(Option<u32>, StageFault, Settled), AllocError>
+    reception: &mut Reception<S>,
+    outlets: &mut [Outlet<S>],
+) -> Option<IntakeHome<S>>
+    requires { (reception.old.is_open ≡ true) × (reception.old.made.intakes ≡ 0) }
+{
+    come_and_go(rt, reception, 0).ok()?;
+    if ticket_of(outlets.first_mut()?.take(rt)) != Some(0) {
+        return None;
+    }
+    come_and_go(rt, reception, 2).ok()?;
+    let late = reception.intake().ok()?;
+    reception.shut();
+    Some(late.finish())
+}
+
+/// Whether the outlet takes the first job, the stage misses the third intake, which comes home late, and the other jobs
+/// are drained.
+fn open_stage<S: Site, R: Wait>(rt: &R, alloc: Global, stage: Stage) -> Result<bool, AllocError>
     requires { stage ≡ S.stage }
 {
-    let (mut outs, mut reception) = stage.open::<S>(alloc, 1)?;
-    let outlet = outs.pop();
-    drop(outs);
-    let Some(mut outlet) = outlet else {
-        drop(reception);
-        return Err(AllocError);
-    };
-    come_and_go(rt, &mut reception, 0)?;
-    let first = ticket_of(outlet.take(rt));
-    come_and_go(rt, &mut reception, 2)?;
-    let late = reception.intake()?;
-    reception.shut();
-    match drained_late(rt, alloc, reception, outlet.finish(), late.finish()) {
-        Some((fault, settled)) => Ok((first, fault, settled)),
-        None => Err(AllocError),
+    let (mut outlets, mut reception) = stage.open::<S>(alloc, 1)?;
+    let late = last_that_comes(rt, &mut reception, outlets.as_mut_slice());
+    let outlets = outlets_home(alloc, outlets);
+    match late {
+        Some(late) => Ok(is_drained_late(rt, alloc, reception, outlets, late)),
+        None => Ok(false),
     }
 }
 
-/// Whether that run takes the first job, misses the third intake, and leaves the other jobs.
+/// That run, with the stage's mark made here.
 fn is_drained<R: Wait>(rt: &R, alloc: Global) -> Result<bool, AllocError> {
-    let (first, fault, settled) = open_stage::<Brand, R>(rt, alloc, Stage::new(alloc, 8)?)?;
-    let mut tickets = Vec::new(alloc);
-    let added = add_tickets(&mut tickets, settled.drained.as_slice());
-    let counts = (settled.put, settled.taken);
-    drop(settled);
-    added?;
-    let is_left = tickets.as_slice() == [1, 2, 3].as_slice();
-    drop(tickets);
-    Ok(first == Some(0) && fault == StageFault::Missing && counts == (4, 1) && is_left)
+    open_stage::<Brand, R>(rt, alloc, Stage::new(alloc, 8)?)
 }
 
 #[test]
 fn a_reception_is_drained(rt: HostRuntime) -> Result<(), Fail> {
     assert!(rt; is_drained(&rt, rt.alloc())?);
     Ok(())
+}
+
+/// Whether the job of this ticket is the next that an outlet takes, without a wait.
+fn takes<S: Site, R: Wait>(rt: &R, outlet: &mut Outlet<S>, ticket: u32) -> bool {
+    ticket_of(outlet.try_take(rt)) == Some(ticket)
 }
 
 /// So many intakes come and go, and the outlet takes what each put: whether in order.
@@ -518,11 +569,7 @@ fn are_taken_in_order<S: Site, R: Wait>(
     let mut first = 0u32;
     for _ in 0..count {
         come_and_go(rt, reception, first)?;
-        let taken = (
-            ticket_of(outlet.try_take(rt)),
-            ticket_of(outlet.try_take(rt)),
-        );
-        if taken != (Some(first), Some(first.wrapping_add(1))) {
+        if !takes(rt, outlet, first) || !takes(rt, outlet, first.wrapping_add(1)) {
             return Ok(false);
         }
         first = first.wrapping_add(2);
@@ -530,43 +577,49 @@ fn are_taken_in_order<S: Site, R: Wait>(
     Ok(true)
 }
 
-/// So many intakes come and go: how many jobs were put and taken, where each was taken in order, and the outlet found that no more come.
+/// Whether so many intakes come and go, whose jobs the outlet takes in order, and then finds that no more come.
+fn comes_to_an_end<S: Site, R: Wait>(
+    rt: &R,
+    reception: &mut Reception<S>,
+    outlets: &mut [Outlet<S>],
+    count: u32,
+) -> bool
+    requires { (reception.old.is_open ≡ true) × (reception.old.made.intakes ≡ 0) }
+{
+    let Some(outlet) = outlets.first_mut() else {
+        return false;
+    };
+    let are_in_order = are_taken_in_order(rt, reception, outlet, count);
+    reception.shut();
+    are_in_order == Ok(true) && ticket_of(outlet.take(rt)).is_none()
+}
+
+/// Whether 500 intakes come and go so, and the stage counts a thousand jobs that were put, and as many that were taken.
 fn many_come_and_go<S: Site, R: Wait>(
     rt: &R,
     alloc: Global,
     stage: Stage,
-    count: u32,
-) -> Result<Option<(u64, u64)>, AllocError>
+) -> Result<bool, AllocError>
     requires { stage ≡ S.stage }
 {
-    let (mut outs, mut reception) = stage.open::<S>(alloc, 1)?;
-    let outlet = outs.pop();
-    drop(outs);
-    let Some(mut outlet) = outlet else {
-        drop(reception);
-        return Err(AllocError);
-    };
-    let are_in_order = are_taken_in_order(rt, &mut reception, &mut outlet, count)?;
-    reception.shut();
-    let is_over = ticket_of(outlet.take(rt)).is_none();
-    let outlets = vec![in alloc; outlet.finish()]?;
-    match reception.drain(rt, alloc, outlets) {
-        Ok(settled) if are_in_order && is_over => Ok(Some((settled.put, settled.taken))),
-        _ => Ok(None),
+    let (mut outlets, mut reception) = stage.open::<S>(alloc, 1)?;
+    let is_over = comes_to_an_end(rt, &mut reception, outlets.as_mut_slice(), 500);
+    match reception.drain(rt, alloc, outlets_home(alloc, outlets)) {
+        Ok(settled) => Ok(is_over && is_settled_so(&settled, 1000, 1000, &[])),
+        Err(back) => {
+            drop(back);
+            Ok(false)
+        }
     }
 }
 
 /// That run, with the stage's mark made here.
-fn came_and_went<R: Wait>(
-    rt: &R,
-    alloc: Global,
-    count: u32,
-) -> Result<Option<(u64, u64)>, AllocError> {
-    many_come_and_go::<Brand, R>(rt, alloc, Stage::new(alloc, 2)?, count)
+fn came_and_went<R: Wait>(rt: &R, alloc: Global) -> Result<bool, AllocError> {
+    many_come_and_go::<Brand, R>(rt, alloc, Stage::new(alloc, 2)?)
 }
 
 #[test]
 fn intakes_come_and_go(rt: HostRuntime) -> Result<(), Fail> {
-    assert_eq!(rt; came_and_went(&rt, rt.alloc(), 500)?, Some((1000, 1000)));
+    assert!(rt; came_and_went(&rt, rt.alloc())?);
     Ok(())
 }

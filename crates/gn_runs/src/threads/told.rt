@@ -2,7 +2,6 @@
 
 use crate::threads::runs::table_run;
 use gn_bodies::{ReaderEnd, WriterEnd};
-use gn_fixtures::PING;
 use gn_links::{Gate, Made, MemoryLink, Place};
 use gn_report::Report;
 use gn_run_fixtures::a_report;
@@ -45,51 +44,43 @@ impl Gate for Holder {
     }
 }
 
+/// A Ping whose header says that a byte follows.
+const LONG_PING: &[u8] =
+    b"\xa1\xa1\xa1\xa1\xa1\xa1\xa1\xa1\xa1\xa1\xa1\xa1\xa1\xa1\xa1\xa1\x00\x07\x00\x01\x00\x00\x00";
+
 /// A greeted link that gives a Ping of length 1, and to which no byte can be written.
 fn broken_link(alloc: Global) -> Result<MemoryLink, AllocError> {
     let mut bytes = request().to_vec(alloc)?;
-    bytes.extend_from_slice(&PING[..19])?;
-    bytes.extend_from_slice(&[1, 0, 0, 0])?;
+    bytes.extend_from_slice(LONG_PING)?;
     Ok(MemoryLink::new(Role::Accepting, bytes, 4096).failing(None, Some(1)))
 }
 
-/// How both bodies of a link ended.
-type BothEnds = (ReaderEnd, WriterEnd);
-
-/// How the last link of a run ended, and how often it closed a connection.
-fn ends_of<Rd, W>(report: &Report<Rd, W>) -> (Option<BothEnds>, u32) {
-    let mut ends = None;
-    for link in &report.links {
-        ends = Some((link.reader_end, link.writer_end));
-    }
-    (ends, report.stats.closed)
+/// Whether the last link of a run ended so that its writer couldn't write and its reader found a fault, and one connection
+/// was closed.
+fn ended_so<Rd, W>(report: &Report<Rd, W>) -> bool {
+    let fault = FrameFault::FixedLength(Kind::Ping, 1);
+    let ended = match report.links.last() {
+        Some(link) => {
+            link.reader_end == ReaderEnd::Fault(fault) && link.writer_end == WriterEnd::WriteFailed
+        }
+        None => false,
+    };
+    ended && report.stats.closed == 1
 }
 
-/// How the broken link ends, and how often a connection was closed.
-fn ends_of_broken<R: Threads + Wait + Sync>(
-    rt: &R,
-    alloc: Global,
-    gate: &Holder,
-) -> Result<(Option<BothEnds>, u32), Fail> {
+/// Whether the broken link ends so, and the gate is told of one close.
+fn is_told_once<R: Threads + Wait + Sync>(rt: &R, alloc: Global) -> Result<bool, Fail> {
+    let gate = Holder {
+        closed: AtomicU32::new(0),
+    };
     let links = vec![in alloc; broken_link(alloc)?]?;
-    let report = a_report(table_run(rt, alloc, links, 1, gate))?;
-    let ends = ends_of(&report);
-    drop(report);
-    Ok(ends)
+    let report = a_report(table_run(rt, alloc, links, 1, &gate))?;
+    Ok(ended_so(&report) && gate.closed.load(Ordering::SeqCst) == 1)
 }
 
 /// The writer closes, as its consent can't be written, and the reader, which finds a fault, finds the connection closed.
 #[test]
 fn a_close_is_told_once(rt: HostRuntime) -> Result<(), Fail> {
-    let gate = Holder {
-        closed: AtomicU32::new(0),
-    };
-    let (ends, closed) = ends_of_broken(&rt, rt.alloc(), &gate)?;
-    let fault = FrameFault::FixedLength(Kind::Ping, 1);
-    assert_eq!(rt;
-        ends,
-        Some((ReaderEnd::Fault(fault), WriterEnd::WriteFailed))
-    );
-    assert_eq!(rt; (closed, gate.closed.load(Ordering::SeqCst)), (1, 1));
+    assert!(rt; is_told_once(&rt, rt.alloc())?);
     Ok(())
 }

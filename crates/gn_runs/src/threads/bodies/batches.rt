@@ -1,11 +1,12 @@
 //! Writers that take one packet at a time, and two; and a reader that admits two descriptors at once.
 
-use super::{Setting, Told, USUAL, run_link};
+use super::{Ends, Setting, Told, USUAL, run_link};
 use gn_bodies::{ReaderEnd, WriterEnd};
 use gn_fixtures::OWN_PONG;
 use gn_links::MemoryLink;
 use gn_shake::Role;
 use std::alloc::Global;
+use std::process::Abort;
 use std::sync::Wait;
 use std::test::Fail;
 
@@ -19,6 +20,12 @@ const PONGS: &[u8] =
     b"\xa1\xa1\xa1\xa1\xa1\xa1\xa1\xa1\xa1\xa1\xa1\xa1\xa1\xa1\xa1\xa1\x01\x01\x00\x0e\x00\x00\x00\xca\x18\x7f\x00\x00\x01\x05\x00\x00\x00\x28\x00\x00\x00\
 \xa2\xa2\xa2\xa2\xa2\xa2\xa2\xa2\xa2\xa2\xa2\xa2\xa2\xa2\xa2\xa2\x01\x01\x00\x0e\x00\x00\x00\xca\x18\x7f\x00\x00\x01\x05\x00\x00\x00\x28\x00\x00\x00";
 
+/// The most packets of a batch, how the writer ends whose second write fails, and what it has written.
+const BATCHES: [(u32, WriterEnd, &[u8]); 2] = [
+    (1, WriterEnd::WriteFailed, OWN_PONG),
+    (2, WriterEnd::Drained, PONGS),
+];
+
 /// Whether the writer of a link of these Pings, whose second write fails, ends so with such a batch, and has written this.
 fn writes<R: Wait>(
     rt: &R,
@@ -28,22 +35,29 @@ fn writes<R: Wait>(
     written: &[u8],
 ) -> Result<bool, Fail> {
     let link = MemoryLink::new(Role::Plain, PINGS.to_vec(alloc)?, 4096).failing(None, Some(2));
-    match run_link(rt, alloc, Setting { batch, ..USUAL }, link) {
-        Some(ran) => {
-            let is_so = ran.ends == (Ok(ReaderEnd::Bytes), Ok(()), Ok(end))
-                && ran.writer.bytes() == written;
-            drop(ran);
-            Ok(is_so)
-        }
-        None => Ok(false),
+    let setting = Setting {
+        batch,
+        written: (b"", written),
+        ..USUAL
+    };
+    let ran = run_link(rt, alloc, setting, link)?;
+    Ok(ran.ends == (Ok(ReaderEnd::Bytes), Ok(()), Ok(end)) && ran.is_written)
+}
+
+/// Fails where a batch isn't written as it must.
+fn write_all<R: Wait + Abort>(rt: &R, alloc: Global) -> Result<(), Fail> {
+    for (batch, end, written) in BATCHES {
+        assert!(rt;
+            writes(rt, alloc, batch, end, written)?,
+            "a batch of {batch}"
+        );
     }
+    Ok(())
 }
 
 #[test]
 fn a_batch_is_one_write(rt: HostRuntime) -> Result<(), Fail> {
-    assert!(rt; writes(&rt, rt.alloc(), 1, WriterEnd::WriteFailed, OWN_PONG)?);
-    assert!(rt; writes(&rt, rt.alloc(), 2, WriterEnd::Drained, PONGS)?);
-    Ok(())
+    write_all(&rt, rt.alloc())
 }
 
 /// What a gate is told of a link of these Pings that is read once.
@@ -58,27 +72,21 @@ const READ_ONCE: Told = [
     "",
 ];
 
-/// Whether a reader that may make one read admits both Pings and closes, and they are routed all the same.
-fn reads_once<R: Wait>(rt: &R, alloc: Global) -> Result<bool, Fail> {
+/// Fails unless a reader that may make one read admits both Pings and closes, and they are routed all the same.
+fn read_once<R: Wait + Abort>(rt: &R, alloc: Global) -> Result<(), Fail> {
     let once = Setting {
         turns: 1,
         batch: 2,
         ..USUAL
     };
     let link = MemoryLink::new(Role::Plain, PINGS.to_vec(alloc)?, 4096);
-    match run_link(rt, alloc, once, link) {
-        Some(ran) => {
-            let is_so = ran.ends == (Ok(ReaderEnd::Turns), Ok(()), Ok(WriterEnd::Closed))
-                && ran.told == READ_ONCE;
-            drop(ran);
-            Ok(is_so)
-        }
-        None => Ok(false),
-    }
+    let ran = run_link(rt, alloc, once, link)?;
+    let closed: Ends = (Ok(ReaderEnd::Turns), Ok(()), Ok(WriterEnd::Closed));
+    assert!(rt; ran.ends == closed && ran.told == READ_ONCE);
+    Ok(())
 }
 
 #[test]
 fn one_read_of_two_pings(rt: HostRuntime) -> Result<(), Fail> {
-    assert!(rt; reads_once(&rt, rt.alloc())?);
-    Ok(())
+    read_once(&rt, rt.alloc())
 }

@@ -1,17 +1,18 @@
 //! Runs over memory links that fail, are cut, come slowly or never end, row by row.
 
 use super::endless::EndlessLink;
-use super::run_over;
 use super::slow::SlowLink;
+use super::{Found, run_over};
 use crate::threads::runs::{plain_links, run_of};
 use gn_bodies::{ReaderEnd, WriterEnd};
 use gn_fixtures::{OWN_PONG, PING, usual};
 use gn_links::{MemoryLink, NoGate};
 use gn_rules::Config;
-use gn_run_fixtures::{Left, READER, WRITER};
+use gn_run_fixtures::{READER, WRITER};
 use gn_shake::{Role, consent, request};
 use gn_threads::RunFault;
 use std::alloc::{AllocError, Global};
+use std::process::Abort;
 use std::sync::Wait;
 use std::test::Fail;
 use std::thread::Threads;
@@ -29,7 +30,7 @@ enum Fault {
     Write,
     /// The first write takes nothing.
     Stall,
-    /// The link has its first k bytes alone.
+    /// The link gives the first k bytes after its greeting alone.
     Cut,
 }
 
@@ -173,66 +174,51 @@ fn greeted(
     role: Role,
     bytes: &[u8],
 ) -> Result<Vec<u8>, AllocError> {
-    let mut all = Vec::new(alloc);
-    if let Role::Accepting = role {
-        all.extend_from_slice(greeting)?;
-    }
-    all.extend_from_slice(bytes)?;
-    Ok(all)
+    let first: &[u8] = if let Role::Accepting = role {
+        greeting
+    } else {
+        b""
+    };
+    [first, bytes].concat(alloc)
 }
 
 /// The link of a row at k, read and written a byte at a time.
 fn link_of(alloc: Global, row: &Row, k: u32) -> Result<SlowLink, AllocError> {
-    let mut bytes = greeted(alloc, request(), row.role, row.bytes)?;
     let (read, write, stalls) = match row.fault {
         Fault::Read => (Some(k), None, false),
         Fault::Write => (None, Some(k), false),
         Fault::Stall => (None, None, true),
         Fault::Cut => (None, None, false),
     };
-    if let Fault::Cut = row.fault {
-        bytes.truncate(k as usize);
-    }
+    let given = match row.fault {
+        Fault::Cut => &row.bytes[..row.bytes.len().min(k as usize)],
+        _ => row.bytes,
+    };
+    let bytes = greeted(alloc, request(), row.role, given)?;
     let link = MemoryLink::new(row.role, bytes, 1).failing(read, write);
     Ok(SlowLink { link, stalls })
 }
 
-/// Whether so much of a text was written.
-fn is_written(written: &[u8], text: &[u8], wanted: Written, k: u32) -> bool {
+/// Whether so many of the first bytes of a text of this length were written.
+fn is_written(written: Option<usize>, length: usize, wanted: Written, k: u32) -> bool {
     match wanted {
-        Written::All => written == text,
-        Written::AllOrNone => written == text || written.is_empty(),
-        Written::None => written.is_empty(),
-        Written::BeforeFault => text.get(..(k as usize).saturating_sub(1)) == Some(written),
+        Written::All => written == Some(length),
+        Written::AllOrNone => written == Some(length) || written == Some(0),
+        Written::None => written == Some(0),
+        Written::BeforeFault => written == Some((k as usize).saturating_sub(1)),
     }
 }
 
-/// Whether the run of a row at k left what it must.
-fn is_found(left: &Left, written: &[u8], row: &Row, text: &[u8], k: u32) -> bool {
-    let (reader, writer) = left.ends;
-    let is_read = reader == row.reader && left.admits == row.admits;
-    let is_late = row.is_closed_first && reader == ReaderEnd::NotLive && left.admits == 0;
+/// Whether the run of a row at k left what it must, where a text of this length was to be written.
+fn is_found(found: &Found, row: &Row, length: usize, k: u32) -> bool {
+    let (reader, writer) = found.ends;
+    let is_read = reader == row.reader && found.admits == row.admits;
+    let is_late = row.is_closed_first && reader == ReaderEnd::NotLive && found.admits == 0;
     (is_read || is_late)
         && writer == row.writer
-        && left.closers.as_slice() == [row.closer].as_slice()
-        && is_written(written, text, row.written, k)
-        && left.is_all_closed()
-}
-
-/// Whether the run of a row at k leaves what it must.
-fn is_right_at<R: Threads + Wait + Sync>(
-    rt: &R,
-    alloc: Global,
-    config: &Config,
-    row: &Row,
-    text: &[u8],
-    k: u32,
-) -> Result<bool, Fail> {
-    let (left, written) = run_over(rt, alloc, config, link_of(alloc, row, k)?)?;
-    let is_found = is_found(&left, written.as_slice(), row, text, k);
-    drop(left);
-    drop(written);
-    Ok(is_found)
+        && found.closer == Some(row.closer)
+        && is_written(found.written, length, row.written, k)
+        && found.is_all_closed
 }
 
 /// The first k at which the run of a row leaves something else than it must.
@@ -244,21 +230,27 @@ fn first_wrong<R: Threads + Wait + Sync>(
 ) -> Result<Option<u32>, Fail> {
     let text = greeted(alloc, consent(), row.role, OWN_PONG)?;
     for k in row.ks.0..=row.ks.1 {
-        if !is_right_at(rt, alloc, config, row, text.as_slice(), k)? {
+        let found = run_over(rt, alloc, config, link_of(alloc, row, k)?, text.as_slice())?;
+        if !is_found(&found, row, text.len(), k) {
             return Ok(Some(k));
         }
     }
     Ok(None)
 }
 
-#[test]
-fn each_row_leaves_what_it_must(rt: HostRuntime) -> Result<(), Fail> {
+/// Fails at the first row that leaves something else than it must.
+fn run_rows<R: Threads + Wait + Sync + Abort>(rt: &R, alloc: Global) -> Result<(), Fail> {
     let config = usual(100)?;
     for (number, row) in ROWS.iter().enumerate() {
-        let wrong = first_wrong(&rt, rt.alloc(), &config, row)?;
+        let wrong = first_wrong(rt, alloc, &config, row)?;
         assert_eq!(rt; wrong, None, "row {number}");
     }
     Ok(())
+}
+
+#[test]
+fn each_row_leaves_what_it_must(rt: HostRuntime) -> Result<(), Fail> {
+    run_rows(&rt, rt.alloc())
 }
 
 /// A million zero bytes are 43,478 Pings with TTL 0 and one ID, and six bytes more. The first is answered, if its Pong is
@@ -276,38 +268,45 @@ const ENDLESS: Row = Row {
     written: Written::AllOrNone,
 };
 
-/// Whether the run of a link without end leaves what it must.
-fn is_right_without_end<R: Threads + Wait + Sync>(rt: &R, alloc: Global) -> Result<bool, Fail> {
+/// Fails unless the run of a link without end leaves what it must.
+fn run_without_end<R: Threads + Wait + Sync + Abort>(rt: &R, alloc: Global) -> Result<(), Fail> {
     let config = usual(1_000_000)?;
     let link = EndlessLink {
         link: MemoryLink::new(Role::Plain, Vec::new(alloc), 1),
     };
-    let (left, written) = run_over(rt, alloc, &config, link)?;
     let mut pong = [0u8; 37];
     pong[16..].copy_from_slice(&OWN_PONG[16..]);
-    let is_found = is_found(&left, written.as_slice(), &ENDLESS, &pong, 0);
-    drop(left);
-    drop(written);
-    Ok(is_found)
+    let found = run_over(rt, alloc, &config, link, &pong)?;
+    assert!(rt; is_found(&found, &ENDLESS, pong.len(), 0));
+    Ok(())
 }
 
 #[test]
 fn a_link_without_end_is_closed(rt: HostRuntime) -> Result<(), Fail> {
-    assert!(rt; is_right_without_end(&rt, rt.alloc())?);
-    Ok(())
+    run_without_end(&rt, rt.alloc())
 }
 
-/// Whether a run of two plain links of so many Pings, of three steps at most, finds its history full.
-fn is_full<R: Threads + Wait + Sync>(rt: &R, alloc: Global, pings: u8) -> Result<bool, Fail> {
+/// The fault of a run of two plain links of so many Pings, of three steps at most.
+fn fault_of<R: Threads + Wait + Sync>(
+    rt: &R,
+    alloc: Global,
+    pings: u8,
+) -> Result<Option<RunFault>, Fail> {
     let config = usual(3)?;
     let links = plain_links(alloc, 2, pings)?;
-    let fault = run_of(rt, alloc, &config, links, 1, &NoGate).err();
-    Ok(fault == Some(RunFault::HistoryFull))
+    Ok(run_of(rt, alloc, &config, links, 1, &NoGate).err())
+}
+
+/// Fails unless such a run finds its history full, without Pings and with one.
+fn fill_both<R: Threads + Wait + Sync + Abort>(rt: &R, alloc: Global) -> Result<(), Fail> {
+    for pings in 0..2 {
+        let fault = fault_of(rt, alloc, pings)?;
+        assert_eq!(rt; fault, Some(RunFault::HistoryFull), "{pings} Pings");
+    }
+    Ok(())
 }
 
 #[test]
 fn two_links_need_more_than_three_steps(rt: HostRuntime) -> Result<(), Fail> {
-    assert!(rt; is_full(&rt, rt.alloc(), 0)?);
-    assert!(rt; is_full(&rt, rt.alloc(), 1)?);
-    Ok(())
+    fill_both(&rt, rt.alloc())
 }

@@ -26,9 +26,9 @@ impl SlowWriter {
         }
     }
 
-    /// What was written, for keeps.
-    pub(super) fn into_bytes(self) -> Vec<u8> {
-        self.writer.into_bytes()
+    /// What was written.
+    pub(super) fn bytes(&self) -> &[u8] {
+        self.writer.bytes()
     }
 }
 
