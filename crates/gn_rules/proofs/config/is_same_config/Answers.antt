@@ -2,7 +2,7 @@ use Rattle.std.proofs.Common.{rules, ◌≡◌, ◌&&◌, Bool, IsTrue, eqb}
 use lib.Pointwise.{pointwise}
 use Rattle.gn_rules.specs.declared.config.Own.{Own}
 use Rattle.gn_rules.proofs.ConfigLemmas.{same_servents}
-use Rattle.gn_rules.proofs.same.is_same_config.Goals as goal
+use Rattle.gn_rules.proofs.config.is_same_config.Goals as goal
 
 -- of equal servents all is equal that is compared
 compared : (x y : Own) (r : Bool)
