@@ -1,5 +1,5 @@
 use Rattle.std.proofs.Common.{append_assoc}
-use Rattle.gn_show.proofs.step_json.put_closed.Goals as goal
+use Rattle.gn_show.proofs.step_json.put_numbered.Goals as goal
 
 pub returns : goal.returns
 returns c =
