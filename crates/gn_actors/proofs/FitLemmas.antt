@@ -1,6 +1,6 @@
 -- Receipts that fit a history fit each longer one, and one more receipt fits with its step.
 use Rattle.std.proofs.Common.{◌≡◌, ◌≤◌, ◌<◌, ◌+◌, ℕ, suc, true, not, nat_lt, List, [], ◌∷◌, ◌++◌, length, get_or, refl, sym, ◌∙◌, subst, arith, inl, inr}
-use mathlib.Core.List.{IsPrefix, append-nil}
+use mathlib.Core.List.{IsPrefix}
 use Rattle.std.proofs.lemmas.Bool.{and_parts, cases_lt, le-ltb}
 use Rattle.std.proofs.lemmas.List.{get_or_push, get_or_append_left, length-append, length_push}
 use Rattle.gn_rules.specs.declared.receipt.Receipt.{Receipt}
@@ -53,10 +53,3 @@ fit_next {A} steps a rs r is fits =
 pub fit_recorded : {A : Type 0} (seen before after : List (Step A)) (a : ℕ) (rs : List (Receipt A)) (r : Receipt A) → IsPrefix seen before → after ≡ before ++ step_of a r ∷ [] → r.index ≡ length before → AreFitting seen a rs
     → AreFitting after a (rs ++ r ∷ [])
 fit_recorded seen before after a rs r begun is at fits = rw is (fit_next before a rs r at (fit_longer seen before a rs begun fits))
-
--- a list with one more begins as it was
-pub one_more : {X : Type 0} (before after : List X) (x : X) → after ≡ before ++ x ∷ [] → IsPrefix before after
-one_more before after x is = (x ∷ [], sym is)
-
-pub as_it_is : {X : Type 0} (before after : List X) → after ≡ before → IsPrefix before after
-as_it_is before after is = ([], append-nil before ∙ sym is)

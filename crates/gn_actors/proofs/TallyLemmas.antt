@@ -9,11 +9,11 @@ use Rattle.gn_rules.specs.declared.receipt.Step.{Step}
 use Rattle.gn_rules.specs.declared.event.Event.TheVariants.{Route}
 use Rattle.gn_rules.specs.declared.reply.Reply.{Reply}
 use Rattle.gn_rules.specs.declared.reply.Reply.TheVariants as kind
-use Rattle.gn_rules.specs.Fits.{replies}
+use Rattle.gn_rules.specs.Fits.{is_at_threshold, replies}
 use Rattle.gn_rules.specs.History.{connected_of, step_of}
 use Rattle.gn_laws.specs.Owners.{AreFitting, indices_ascend, known_conn}
 use Rattle.gn_actors.specs.ActorState.{receipt}
-use Rattle.gn_actors.specs.Tallies.{HasRoom, is_offer, is_refusal, is_taking, last_place, tally_of, tally_with}
+use Rattle.gn_actors.specs.Tallies.{HasRoom, is_offer, is_taking, last_place, tally_of, tally_with}
 use Rattle.gn_actors.specs.declared.tally.Tally.{Tally}
 
 -- the last receipt
@@ -30,7 +30,8 @@ or_none : (a : Option ℕ) → option_or a None ≡ a
 or_none None = refl
 or_none (Some n) = refl
 
-known_push : {A : Type 0} (rs : List (Receipt A)) (r : Receipt A) → known_conn (rs ++ r ∷ []) ≡ option_or (known_conn rs) (connected_of r.reply)
+-- the connection that receipts tell of, with one more
+pub known_push : {A : Type 0} (rs : List (Receipt A)) (r : Receipt A) → known_conn (rs ++ r ∷ []) ≡ option_or (known_conn rs) (connected_of r.reply)
 known_push [] r = or_none (connected_of r.reply)
 known_push (s ∷ rs) r = ap (λ o. option_or (connected_of s.reply) o) (known_push rs r) ∙ sym (or_later (connected_of s.reply) (known_conn rs) (connected_of r.reply))
 
@@ -49,7 +50,7 @@ tally_push {A} rs r =
     let all = tally_of (rs ++ r ∷ []) in
     let more = tally_with before r in
     told_is all.connection more.connection all.offered more.offered all.busy more.busy all.taken more.taken (known_push rs r)
-    (count_push (λ (r : Receipt A). is_offer r.event) rs r) (count_push (λ (r : Receipt A). is_refusal r.reply) rs r) (count_push (λ (r : Receipt A). is_taking r.reply) rs r)
+    (count_push (λ (r : Receipt A). is_offer r.event) rs r) (count_push (λ (r : Receipt A). is_at_threshold r.reply) rs r) (count_push (λ (r : Receipt A). is_taking r.reply) rs r)
 
 no_more : (n : ℕ) → n + 0 ≡ n
 no_more n = omega arith
@@ -59,16 +60,9 @@ told_same t = told_is (option_or t.connection None) t.connection (t.offered + 0)
 
 -- a Route's receipt counts nothing
 pub tally_route : {A : Type 0} (t : Tally) (index ticket : ℕ) (reply : Reply A) → replies {A = A} (Route ticket) reply ≡ true → tally_with t (receipt index (Route ticket) reply) ≡ t
-tally_route t index ticket (kind.Connected c) fits = absurd (cc)
-tally_route t index ticket kind.TooMany fits = absurd (cc)
-tally_route t index ticket (kind.Closed n) fits = absurd (cc)
-tally_route t index ticket (kind.Admitted u) fits = absurd (cc)
-tally_route t index ticket kind.Busy fits = absurd (cc)
-tally_route t index ticket kind.Crowded fits = absurd (cc)
 tally_route t index ticket (kind.Routed sends local) fits = told_same t
 tally_route t index ticket (kind.Dropped reason) fits = told_same t
-tally_route t index ticket (kind.Taken packet) fits = absurd (cc)
-tally_route t index ticket (kind.Sent sends) fits = absurd (cc)
+tally_route t index ticket reply fits = absurd (cc)
 
 -- receipts whose indices ascend from i, all below n, are at most so many
 few : {A : Type 0} (i n : ℕ) (rs : List (Receipt A)) → i ≤ n → indices_ascend i rs ≡ true → ((j : ℕ) (d : Receipt A) → j < length rs → (get_or rs j d).index < n) → i + length rs ≤ n
@@ -88,6 +82,6 @@ few_receipts steps a rs fits = let few = few 0 (length steps) rs (omega arith) f
 pub has_room : {A : Type 0} (rs : List (Receipt A)) (t : Tally) → t ≡ tally_of rs → length rs + 1 < 2 ^ 64 → HasRoom t
 has_room {A} rs t is long =
     let offers = count_by-le-length (λ (r : Receipt A). is_offer r.event) rs in
-    let refusals = count_by-le-length (λ (r : Receipt A). is_refusal r.reply) rs in
+    let refusals = count_by-le-length (λ (r : Receipt A). is_at_threshold r.reply) rs in
     let takings = count_by-le-length (λ (r : Receipt A). is_taking r.reply) rs in
     subst HasRoom (sym is) (record { offered = omega (arith, offers, long); busy = omega (arith, refusals, long); taken = omega (arith, takings, long) })

@@ -26,7 +26,7 @@ pub record IsRegistry {A : Type 0} (all here amount out numbers : ℕ) (lists : 
   -- each list fits the steps of its actor
   pub fit : (k : ℕ) → k < length lists → AreFitting seen k (slice_index_or lists k [])
 
--- no actor of this number is home
+-- nothing came home by this number
 abbrev pub IsOut : {A : Type 0} → RegistryState A → ℕ → Type 0
 IsOut r number = (number < length r.lists) × (slice_index_or r.lists number [] ≡ [])
 

@@ -6,7 +6,8 @@ use Rattle.gn_rules.specs.declared.event.Event.{Event}
 use Rattle.gn_rules.specs.declared.event.Event.TheVariants.{Admit}
 use Rattle.gn_rules.specs.declared.receipt.Receipt.{Receipt}
 use Rattle.gn_rules.specs.declared.reply.Reply.{Reply}
-use Rattle.gn_rules.specs.declared.reply.Reply.TheVariants.{Busy, Crowded, Taken}
+use Rattle.gn_rules.specs.declared.reply.Reply.TheVariants.{Taken}
+use Rattle.gn_rules.specs.Fits.{is_at_threshold}
 use Rattle.gn_rules.specs.History.{connected_of}
 use Rattle.gn_laws.specs.Owners.{known_conn}
 use Rattle.gn_actors.specs.declared.tally.Tally.{Tally}
@@ -15,12 +16,6 @@ use Rattle.gn_actors.specs.declared.tally.Tally.{Tally}
 abbrev pub is_offer : {A : Type 0} → Event A → Bool
 is_offer (Admit c packet) = true
 is_offer event = false
-
--- a reply that refuses a descriptor at a threshold, that of all or the link's own
-abbrev pub is_refusal : {A : Type 0} → Reply A → Bool
-is_refusal Busy = true
-is_refusal Crowded = true
-is_refusal reply = false
 
 -- a reply by which a packet is taken
 abbrev pub is_taking : {A : Type 0} → Reply A → Bool
@@ -33,7 +28,7 @@ offered receipts = count_by (λ receipt. is_offer receipt.event) receipts
 
 -- how many of them were refused at a threshold
 abbrev pub busy : {A : Type 0} → List (Receipt A) → ℕ
-busy receipts = count_by (λ receipt. is_refusal receipt.reply) receipts
+busy receipts = count_by (λ receipt. is_at_threshold receipt.reply) receipts
 
 -- how many packets were taken, by these receipts
 abbrev pub taken : {A : Type 0} → List (Receipt A) → ℕ
@@ -57,7 +52,7 @@ abbrev pub tally_with : {A : Type 0} → Tally → Receipt A → Tally
 tally_with tally r = record {
   connection = option_or tally.connection (connected_of r.reply);
   offered = tally.offered + cond (is_offer r.event) 1 0;
-  busy = tally.busy + cond (is_refusal r.reply) 1 0;
+  busy = tally.busy + cond (is_at_threshold r.reply) 1 0;
   taken = tally.taken + cond (is_taking r.reply) 1 0;
 }
 

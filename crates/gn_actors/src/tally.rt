@@ -1,7 +1,7 @@
 //! What an actor's receipts count.
 
 ghost use Rattle.std.specs.Prelude.{◌≡◌, ◌+◌, ◌<◌, ◌^◌, cond};
-ghost use Rattle.gn_actors.specs.Tallies.{HasRoom, is_offer, is_refusal, is_taking, no_tally, tally_with};
+ghost use Rattle.gn_actors.specs.Tallies.{HasRoom, is_offer, is_taking, no_tally, tally_with};
 
 use gn_rules::{ConnId, Event, Receipt, Reply};
 use std::alloc::Allocator;
@@ -24,13 +24,6 @@ fn is_offer<A: Allocator>(event: &Event<A>) -> bool
     ensures { result ≡ is_offer event.now }
 {
     matches!(event, Event::Admit(..))
-}
-
-/// Whether a descriptor is refused at a threshold by this reply.
-fn is_refusal<A: Allocator>(reply: &Reply<A>) -> bool
-    ensures { result ≡ is_refusal reply.now }
-{
-    matches!(reply, Reply::Busy | Reply::Crowded)
 }
 
 /// Whether a packet is taken by this reply.
@@ -69,7 +62,7 @@ impl Tally {
         Tally {
             connection: self.connection.or(receipt.reply.connected()),
             offered: plus(self.offered, is_offer(&receipt.event)),
-            busy: plus(self.busy, is_refusal(&receipt.reply)),
+            busy: plus(self.busy, receipt.reply.is_at_threshold()),
             taken: plus(self.taken, is_taking(&receipt.reply)),
         }
     }

@@ -38,11 +38,6 @@ admitting_more left rest all d c me us them is was more same stays settles = rec
   settled = λ jobs h. settles jobs (was.settled jobs h);
 }
 
-pub admitting_all : {A : Type 0} (left all : List Packet) (c : ℕ) (me us : Admitting A) → left ≡ [] → IsAdmitting left all c me us
-    → link_events us.actor ≡ link_events me.actor ++ map (Admit c) all
-admitting_all left all c me us none was =
-    was.added ∙ ap (λ w. link_events me.actor ++ map (Admit c) w) (sym (was.split ∙ ap (λ w. was.done ++ w) none ∙ append-nil was.done))
-
 pub admitting_part : {A : Type 0} (left rest all : List Packet) (d : Packet) (c : ℕ) (me us them : Admitting A) → left ≡ d ∷ rest → IsAdmitting left all c me us
     → link_events them.actor ≡ link_events us.actor → (n : ℕ) × (n < length all) × (link_events them.actor ≡ link_events me.actor ++ map (Admit c) (take n all))
 admitting_part left rest all d c me us them is was same =

@@ -1,21 +1,19 @@
 -- One receipt more.
-use Rattle.std.proofs.Common.{◌≡◌, ◌⊎◌, inl, inr, ℕ, Bool, true, not, List, [], ◌∷◌, ◌++◌, filter, is_some, map, Option, Some, None, Ok, Err, refl, ap, ◌∙◌, sym, append-nil}
+use Rattle.std.proofs.Common.{◌≡◌, ◌⊎◌, inl, inr, ℕ, Bool, not, List, [], ◌∷◌, ◌++◌, filter, is_some, map, Option, Some, None, Ok, Err, ap, ◌∙◌, append-nil}
 use Rattle.std.specs.Prelude.{IfErr, MatchResult, OnOk, Result}
 use Rattle.std.proofs.lemmas.List.{map-append}
 use Rattle.gn_wire.specs.Packet.{Packet}
 use Rattle.gn_rules.specs.declared.event.Event.{Event}
-use Rattle.gn_rules.specs.declared.event.Event.TheVariants.{Admit, Close, Connect, Route}
+use Rattle.gn_rules.specs.declared.event.Event.TheVariants.{Admit, Close, Route}
 use Rattle.gn_rules.specs.declared.receipt.Receipt.{Receipt}
-use Rattle.gn_rules.specs.declared.reply.Reply.{Reply}
-use Rattle.gn_rules.specs.declared.reply.Reply.TheVariants.{Connected, TooMany, Closed, Admitted, Busy, Crowded, Routed, Dropped, Taken, Sent}
+use Rattle.gn_rules.specs.declared.reply.Reply.TheVariants.{Closed, Admitted}
 use Rattle.std.specs.Option.{option_or}
 use Rattle.std.proofs.lemmas.List.Elements.{filter-append, filter_map-append}
-use Rattle.gn_rules.specs.History.{admitted_of, connected_of, taken_of, ticket_of}
-use Rattle.gn_laws.specs.Owners.{known_conn}
+use Rattle.gn_rules.specs.History.{connected_of, taken_of, ticket_of}
 use Rattle.gn_laws.specs.Owners as laws
+use Rattle.gn_actors.proofs.TallyLemmas.{known_push}
 use Rattle.gn_stage.specs.Jobs.{Queued}
 use Rattle.gn_hub.specs.ActorState.{ActorState, receipt, with_receipt}
-use Rattle.gn_rules.specs.Fits.{replies}
 use Rattle.gn_hub.specs.Receipts.{HasClosed, HasDrained, HasReceipt}
 use Rattle.gn_bodies.specs.declared.ends.BodyFault.{BodyFault}
 use Rattle.gn_bodies.specs.declared.piece.Halt.{Halt}
@@ -30,24 +28,12 @@ link_events-push {A} rs r =
     let event : Receipt A → Event A = λ x. x.event in
     ap (filter is_link) (map-append event rs (r ∷ [])) ∙ filter-append is_link (map event rs) (r.event ∷ [])
 
-or-none : (o : Option ℕ) → option_or o None ≡ o
-or-none None = refl
-or-none (Some c) = refl
-
-or-assoc : (o p q : Option ℕ) → option_or o (option_or p q) ≡ option_or (option_or o p) q
-or-assoc None p q = refl
-or-assoc (Some c) p q = refl
-
-connection-push : {A : Type 0} (rs : List (Receipt A)) (r : Receipt A) → known_conn (rs ++ r ∷ []) ≡ option_or (known_conn rs) (connected_of r.reply)
-connection-push [] r = or-none (connected_of r.reply)
-connection-push (x ∷ rs) r = ap (λ o. option_or (connected_of x.reply) o) (connection-push rs r) ∙ or-assoc (connected_of x.reply) (known_conn rs) (connected_of r.reply)
-
 -- what one receipt does to the events, the connection and the packets
 pub link_events-receipt : {A : Type 0} (me us : ActorState A) (r : Receipt A) → us ≡ with_receipt me r → link_events us ≡ link_events me ++ link_events_in (r ∷ [])
 link_events-receipt me us r got = ap link_events got ∙ link_events-push me.receipts r
 
 pub connection-receipt : {A : Type 0} (me us : ActorState A) (r : Receipt A) → us ≡ with_receipt me r → KeepsConnection me us
-connection-receipt me us r got c was = ap connection_of got ∙ connection-push me.receipts r ∙ ap (λ made. option_or made (connected_of r.reply)) was
+connection-receipt me us r got c was = ap connection_of got ∙ known_push me.receipts r ∙ ap (λ made. option_or made (connected_of r.reply)) was
 
 pub packets-receipt : {A : Type 0} (me us : ActorState A) (r : Receipt A) → us ≡ with_receipt me r → packets_of us ≡ packets_of me ++ laws.packets_of (r ∷ [])
 packets-receipt me us r got = ap packets_of got ∙ filter_map-append (λ x. taken_of x.reply) me.receipts (r ∷ [])
@@ -82,66 +68,16 @@ routed-connection (Ok u) t me us got = connection-route t me us got
 routed-connection (Err e) t me us same = λ c was. ap connection_of same ∙ was
 
 -- what an admission does
-admission_none : {A : Type 0} (c : ℕ) (d : Packet) (reply : Reply A) → replies (Admit c d) reply ≡ true → admitted_of reply ≡ None → (reply ≡ Busy) ⊎ (reply ≡ Crowded)
-admission_none c d (Connected e) fits none = absurd (cc)
-admission_none c d TooMany fits none = absurd (cc)
-admission_none c d (Closed n) fits none = absurd (cc)
-admission_none c d (Admitted t) fits none = absurd (cc)
-admission_none c d Busy fits none = inl refl
-admission_none c d Crowded fits none = inr refl
-admission_none c d (Routed sends local) fits none = absurd (cc)
-admission_none c d (Dropped reason) fits none = absurd (cc)
-admission_none c d (Taken p) fits none = absurd (cc)
-admission_none c d (Sent sends) fits none = absurd (cc)
-
-admission_some : {A : Type 0} (t : ℕ) (reply : Reply A) → admitted_of reply ≡ Some t → reply ≡ Admitted t
-admission_some t (Connected e) some = absurd (cc)
-admission_some t TooMany some = absurd (cc)
-admission_some t (Closed n) some = absurd (cc)
-admission_some t (Admitted u) some = cc
-admission_some t Busy some = absurd (cc)
-admission_some t Crowded some = absurd (cc)
-admission_some t (Routed sends local) some = absurd (cc)
-admission_some t (Dropped reason) some = absurd (cc)
-admission_some t (Taken p) some = absurd (cc)
-admission_some t (Sent sends) some = absurd (cc)
-
--- the reply of the last receipt
-abbrev pub IsLast : {A : Type 0} → Reply A → ActorState A → Type 0
-IsLast {A} last me = (rs : List (Receipt A)) (r : Receipt A) → me.receipts ≡ rs ++ r ∷ [] → last ≡ r.reply
-
-pub admitted_none : {A : Type 0} (c : ℕ) (d : Packet) (last : Reply A) (me us : ActorState A) → HasReceipt (Admit c d) me us → IsLast last us
-    → None ≡ admitted_of last → HasAdmitted c d None me us
-admitted_none c d last me us (index, reply, fits, got) is none =
-    let same : last ≡ reply = is me.receipts (receipt index (Admit c d) reply) (ap (λ w. w.receipts) got) in
-    let away = admission_none c d reply fits (ap admitted_of (sym same) ∙ sym none) in (
-      index,
-      elim away as (λ x. (us ≡ with_receipt me (receipt index (Admit c d) Busy)) ⊎ (us ≡ with_receipt me (receipt index (Admit c d) Crowded))) [
-        | inl busy ↦ inl (got ∙ ap (λ r. with_receipt me (receipt index (Admit c d) r)) busy)
-        | inr crowded ↦ inr (got ∙ ap (λ r. with_receipt me (receipt index (Admit c d) r)) crowded)
-      ],
-    )
-
-pub admitted_some : {A : Type 0} (c t : ℕ) (d : Packet) (last : Reply A) (me us : ActorState A) → HasReceipt (Admit c d) me us → IsLast last us
-    → Some t ≡ admitted_of last → HasAdmitted c d (Some (record { ticket = t; descriptor = d })) me us
-admitted_some c t d last me us (index, reply, fits, got) is some =
-    let same : last ≡ reply = is me.receipts (receipt index (Admit c d) reply) (ap (λ w. w.receipts) got) in
-    let given = admission_some t reply (ap admitted_of (sym same) ∙ sym some) in
-    (index, refl, got ∙ ap (λ r. with_receipt me (receipt index (Admit c d) r)) given)
-
 pub admitted_number : {A : Type 0} (c : ℕ) (d : Packet) (job : Option Queued) (me us : ActorState A) → HasAdmitted c d job me us → us.number ≡ me.number
-admitted_number c d None me us (index, inl got) = ap (λ w. w.number) got
-admitted_number c d None me us (index, inr got) = ap (λ w. w.number) got
+admitted_number c d None me us (index, reply, got, reached) = ap (λ w. w.number) got
 admitted_number c d (Some job) me us (index, same, got) = ap (λ w. w.number) got
 
 pub admitted_connection : {A : Type 0} (c : ℕ) (d : Packet) (job : Option Queued) (me us : ActorState A) → HasAdmitted c d job me us → KeepsConnection me us
-admitted_connection c d None me us (index, inl got) = connection-receipt me us (receipt index (Admit c d) Busy) got
-admitted_connection c d None me us (index, inr got) = connection-receipt me us (receipt index (Admit c d) Crowded) got
+admitted_connection c d None me us (index, reply, got, reached) = connection-receipt me us (receipt index (Admit c d) reply) got
 admitted_connection c d (Some job) me us (index, same, got) = connection-receipt me us (receipt index (Admit c d) (Admitted job.ticket)) got
 
 pub admitted_events : {A : Type 0} (c : ℕ) (d : Packet) (job : Option Queued) (me us : ActorState A) → HasAdmitted c d job me us → link_events us ≡ link_events me ++ Admit c d ∷ []
-admitted_events c d None me us (index, inl got) = link_events-receipt me us (receipt index (Admit c d) Busy) got
-admitted_events c d None me us (index, inr got) = link_events-receipt me us (receipt index (Admit c d) Crowded) got
+admitted_events c d None me us (index, reply, got, reached) = link_events-receipt me us (receipt index (Admit c d) reply) got
 admitted_events c d (Some job) me us (index, same, got) = link_events-receipt me us (receipt index (Admit c d) (Admitted job.ticket)) got
 
 -- what holds in any case holds of an Ok
@@ -186,18 +122,3 @@ closed_packets c (Some found) me us (is, same) = close_packets c me us (inl same
 
 pub drained_packets : {A : Type 0} (c : ℕ) (me us : ActorState A) → HasDrained c me us → packets_of us ≡ packets_of me
 drained_packets c me us (index, got) = packets-receipt me us (receipt index (Close c) (Closed 0)) got ∙ append-nil (packets_of me)
-
--- the first receipt of a reader
-pub first_connection : {A : Type 0} (me us : ActorState A) (last : Reply A) → HasReceipt Connect me us → me.receipts ≡ [] → IsLast last us → connection_of us ≡ connected_of last
-first_connection me us last (index, reply, fits, got) none is =
-    let r = receipt index Connect reply in
-    let same : last ≡ reply = is me.receipts r (ap (λ w. w.receipts) got) in
-    ap connection_of got ∙ connection-push me.receipts r ∙ ap (λ w. option_or (known_conn w) (connected_of reply)) none ∙ ap connected_of (sym same)
-
-pub first_events : {A : Type 0} (me us : ActorState A) → HasReceipt Connect me us → me.receipts ≡ [] → link_events us ≡ Connect ∷ []
-first_events me us (index, reply, fits, got) none =
-    link_events-receipt me us (receipt index Connect reply) got ∙ ap (λ w. link_events_in w ++ Connect ∷ []) none
-
-pub first_alone : {A : Type 0} (me us : ActorState A) → HasReceipt Connect me us → me.receipts ≡ [] → events_of us ≡ link_events us
-first_alone me us (index, reply, fits, got) none =
-    events-receipt me us (receipt index Connect reply) got ∙ ap (λ w. events_of (record me { receipts = w }) ++ Connect ∷ []) none ∙ sym (first_events me us (index, reply, fits, got) none)

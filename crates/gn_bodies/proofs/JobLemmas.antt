@@ -3,10 +3,11 @@ use Rattle.std.proofs.Common.{◌≡◌, inl, inr, ℕ, Bool, true, false, cond,
 use Rattle.std.specs.Prelude.{MatchResult, Result}
 use Rattle.gn_wire.specs.Packet.{Packet}
 use Rattle.gn_rules.specs.declared.event.Event.{Event}
-use Rattle.gn_rules.specs.declared.event.Event.TheVariants.{Connect, Close, Admit, Route, Take, Originate}
+use Rattle.gn_rules.specs.declared.event.Event.TheVariants.{Close, Admit, Route}
 use Rattle.gn_rules.specs.declared.receipt.Receipt.{Receipt}
 use Rattle.gn_rules.specs.declared.reply.Reply.{Reply}
-use Rattle.gn_rules.specs.declared.reply.Reply.TheVariants.{Connected, TooMany, Closed, Admitted, Busy, Crowded, Routed, Dropped, Taken, Sent}
+use Rattle.gn_rules.specs.declared.reply.Reply.TheVariants.{Closed, Admitted}
+use Rattle.gn_rules.specs.Fits.{is_at_threshold}
 use Rattle.gn_stage.specs.Jobs.{Queued}
 use Rattle.gn_hub.specs.ActorState.{ActorState, receipt, with_receipt}
 use Rattle.gn_hub.specs.Receipts.{HasClosed, HasReceipt}
@@ -17,21 +18,8 @@ use Rattle.gn_bodies.specs.Jobs.{is_route, is_routed_next, is_route_of, job_by, 
 use Rattle.gn_bodies.proofs.EventLemmas.{MayClose, close_connection, close_number, may_close}
 
 no_route : {A : Type 0} (reply : Reply A) (event : Event A) → is_route event ≡ false → is_route_of reply event ≡ false
-no_route (Connected c) event other = refl
-no_route TooMany event other = refl
-no_route (Closed n) event other = refl
-no_route (Admitted t) Connect other = refl
-no_route (Admitted t) (Close c) other = refl
-no_route (Admitted t) (Admit c d) other = refl
 no_route (Admitted t) (Route u) other = absurd (cc)
-no_route (Admitted t) (Take c) other = refl
-no_route (Admitted t) (Originate d) other = refl
-no_route Busy event other = refl
-no_route Crowded event other = refl
-no_route (Routed sends local) event other = refl
-no_route (Dropped reason) event other = refl
-no_route (Taken p) event other = refl
-no_route (Sent sends) event other = refl
+no_route reply event other = refl
 
 routed_next-push : {A : Type 0} (reply : Reply A) (rs : List (Receipt A)) (r : Receipt A) → is_route r.event ≡ false → is_routed_next reply (rs ++ r ∷ []) ≡ is_routed_next reply rs
 routed_next-push reply [] r other = no_route reply r.event other
@@ -85,13 +73,13 @@ closing {A} c answer old me us first did intake refused =
       settled = λ jobs is. close_settled c jobs old me us first closed intake refused is;
     }
 
-pub away_jobs : {A : Type 0} (c : ℕ) (d : Packet) (me us : ActorState A) → HasAdmitted c d None me us → jobs_left us.receipts ≡ jobs_left me.receipts
-away_jobs c d me us (index, inl got) = left_none me us (receipt index (Admit c d) Busy) got refl refl
-away_jobs c d me us (index, inr got) = left_none me us (receipt index (Admit c d) Crowded) got refl refl
+-- an admission at a threshold leaves no job
+no_job : {A : Type 0} (c : ℕ) (d : Packet) (reply : Reply A) → is_at_threshold reply ≡ true → job_by (Admit c d) reply ≡ []
+no_job c d (Admitted t) reached = absurd (cc)
+no_job c d reply reached = refl
 
-pub first_jobs : {A : Type 0} (me us : ActorState A) → HasReceipt Connect me us → me.receipts ≡ [] → jobs_left us.receipts ≡ []
-first_jobs me us (index, reply, fits, got) none =
-    ap (λ w. jobs_left w.receipts) got ∙ jobs_left-push me.receipts (receipt index Connect reply) refl ∙ ap (λ w. jobs_left w ++ []) none
+pub away_jobs : {A : Type 0} (c : ℕ) (d : Packet) (me us : ActorState A) → HasAdmitted c d None me us → jobs_left us.receipts ≡ jobs_left me.receipts
+away_jobs c d me us (index, reply, got, reached) = left_none me us (receipt index (Admit c d) reply) got refl (no_job c d reply reached)
 
 -- an actor that did nothing leaves all settled
 pub kept_settled : {A : Type 0} (jobs : List Queued) (old me us : Admitting A) → me ≡ old → us.actor ≡ me.actor → us.intake ≡ me.intake → us.is_refused ≡ me.is_refused → IsSettled jobs old → IsSettled jobs us

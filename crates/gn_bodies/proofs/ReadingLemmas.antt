@@ -9,14 +9,14 @@ use Rattle.gn_shake.specs.declared.shake.ShakeState.{ShakeState}
 use Rattle.gn_shake.specs.declared.shake.ShakeState.TheVariants.{More, Done}
 use Rattle.gn_shake.specs.Greeting.{GreetingIsKnown, greeting_state, greeting_of}
 use Rattle.gn_shake.specs.Shaking.{Shaking, answer_of, fed, used_of, shake_of, PiecesAreOneStream}
-use Rattle.std.specs.Prelude.{IfOk, OnOk, Result}
+use Rattle.std.specs.Prelude.{IfOk, Result}
 use Rattle.gn_rules.specs.declared.event.Event.{Event}
 use Rattle.gn_rules.specs.declared.receipt.Receipt.{Receipt}
 use Rattle.gn_bodies.specs.declared.ends.BodyFault.{BodyFault}
-use Rattle.gn_bodies.specs.Admitting.{Admitting, HasOnlyConnected, KeepsConnection}
-use Rattle.gn_bodies.specs.Done.{Half, IsReaderDone, ReaderKeeps, ReadsAs}
+use Rattle.gn_bodies.specs.Admitting.{Admitting, HasOnlyConnected}
+use Rattle.gn_bodies.specs.Done.{Half, IsReaderDone, ReaderKeeps}
 use Rattle.gn_bodies.specs.declared.ends.ReaderEnd.{ReaderEnd}
-use Rattle.gn_bodies.specs.declared.ends.ReaderEnd.TheVariants.{Bytes, Fault, ReadFailed, Turns, GreetingRefused, GreetingCut, TooMany, NotLive}
+use Rattle.gn_bodies.specs.declared.ends.ReaderEnd.TheVariants.{Bytes, Fault, ReadFailed, Turns, GreetingCut, NotLive}
 use Rattle.gn_shake.specs.declared.role.Role.{Role}
 use Rattle.gn_bodies.specs.declared.piece.Piece.{Piece}
 use Rattle.gn_bodies.specs.declared.piece.Piece.TheVariants as piece
@@ -154,13 +154,10 @@ kept_did {A} end made c own is keeps did =
 -- an end that bytes bring says nothing of the half
 pub bytes_source : (turns : ℕ) (end : ReaderEnd) (half : ReadHalf) → is_of_bytes end ≡ true → SourceRow turns end half
 bytes_source turns Bytes half is = absurd (cc)
-bytes_source turns (Fault f) half is = tt
 bytes_source turns ReadFailed half is = absurd (cc)
 bytes_source turns Turns half is = absurd (cc)
-bytes_source turns GreetingRefused half is = tt
 bytes_source turns GreetingCut half is = absurd (cc)
-bytes_source turns TooMany half is = tt
-bytes_source turns NotLive half is = tt
+bytes_source turns end half is = tt
 
 -- nor that a read failed
 pub bytes_not_failed : {X : Type 0} (end : ReaderEnd) → is_of_bytes end ≡ true → end ≡ ReadFailed → X
@@ -174,24 +171,18 @@ end_not_failed (reading.Joined c frames) end is failed = let no : Bytes ≡ Read
 -- a reader that closed, or closed nothing
 pub closed_row : {A : Type 0} (end : ReaderEnd) (c : ℕ) (es before : List (Event A)) (frames : Frames) → closes end ≡ true → OpenRow end c before frames → WithClose c es before
     → ConnectedRow end c es frames
-closed_row Bytes c es before frames is row more = absurd (cc)
 closed_row {A} (Fault f) c es before frames is row more = (row.0, subst (λ (w : List (Event A)). WithClose c es w) row.1 more)
 closed_row {A} ReadFailed c es before frames is row more = subst (λ (w : List (Event A)). WithClose c es w) row more
 closed_row {A} Turns c es before frames is row more = subst (λ (w : List (Event A)). WithClose c es w) row more
-closed_row GreetingRefused c es before frames is row more = absurd (cc)
-closed_row GreetingCut c es before frames is row more = absurd (cc)
-closed_row TooMany c es before frames is row more = absurd (cc)
-closed_row NotLive c es before frames is row more = absurd (cc)
+closed_row end c es before frames is row more = absurd (cc)
 
 pub open_row : {A : Type 0} (end : ReaderEnd) (c : ℕ) (es : List (Event A)) (frames : Frames) → closes end ≡ false → OpenRow end c es frames → ConnectedRow end c es frames
 open_row Bytes c es frames is row = row
+open_row NotLive c es frames is row = row
 open_row (Fault f) c es frames is row = absurd (cc)
 open_row ReadFailed c es frames is row = absurd (cc)
 open_row Turns c es frames is row = absurd (cc)
-open_row GreetingRefused c es frames is row = absurd row
-open_row GreetingCut c es frames is row = absurd row
-open_row TooMany c es frames is row = absurd row
-open_row NotLive c es frames is row = row
+open_row end c es frames is row = absurd row
 
 -- of a new reader nothing was read
 pub nothing_read : (source : Source) (half : ReadHalf) → IsNewReader half → IsReadFrom source half
@@ -215,22 +206,6 @@ connected_row {A} role end made c es before b is closes row =
     let here : (greeting_state (greeting_of role) b ≡ Done) × OpenRow end c before (frames_after role b) = subst (λ (o : Option ℕ). ReadRow role end o before b) is row in
     subst (λ (o : Option ℕ). ReaderRow role end o es b) (sym is) (here.0, closes here.1)
 
--- what a reader promises of its half, by what it read
-pub reading_done : {A Rd O : Type 0} (state : Rd → ReadHalf) (made_of : Rd → O) (gives : O → Source) (turns : ℕ) (link : Half Rd) (conn : Option ℕ) (me : ActorState A) (half : Rd) (end : Result ReaderEnd BodyFault)
-    → made_of half ≡ made_of link.half → IsReadFrom (gives (made_of half)) (state half)
-    → IfOk end (λ e. ReadsAs turns link.role e conn me.receipts (state half) × (conn ≡ connection_of me))
-    → OnOk end (connection_of me ≡ None → events_of me ≡ link_events me)
-    → IfOk end (λ e. e ≡ ReadFailed → (gives (made_of half)).may_fail ≡ true)
-    → IsReaderDone state made_of gives turns link (record { conn = conn; receipts = me.receipts; half = half; end = end })
-reading_done {A} {Rd} {O} state made_of gives turns link conn me half end made own kept alone failed =
-    record {
-      kept = kept;
-      alone = alone;
-      made = made;
-      own = subst (λ (o : O). IsReadFrom (gives o) (state half)) made own;
-      failed = subst (λ (o : O). IfOk end (λ e. e ≡ ReadFailed → (gives o).may_fail ≡ true)) made failed;
-    }
-
 -- a half that was finished is done as it was
 pub finished_done : {A Rd O : Type 0} (state : Rd → ReadHalf) (made_of : Rd → O) (gives : O → Source) (turns : ℕ) (link : Half Rd) (conn : Option ℕ) (receipts : List (Receipt A)) (before after : Rd) (end : Result ReaderEnd BodyFault)
     → made_of after ≡ made_of before → state after ≡ state before
@@ -243,19 +218,6 @@ finished_done {A} state made_of gives turns link conn receipts before after end 
       own = subst (λ (h : ReadHalf). IsReadFrom (gives (made_of link.half)) h) (sym same) was.own;
       failed = was.failed;
     }
-
--- its connection, once it has closed what it closes
-pub closed_connection : {A : Type 0} (made : Option ℕ) (before after : Admitting A) → connection_of before.actor ≡ made → (made ≡ None → after ≡ before) → KeepsConnection before.actor after.actor
-    → connection_of after.actor ≡ made
-closed_connection {A} None before after was none keeps = ap (λ (h : Admitting A). connection_of h.actor) (none refl) ∙ was
-closed_connection (Some c) before after was none keeps = keeps c was
-
--- it routed nothing where it has none
-pub closed_alone : {A : Type 0} (made : Option ℕ) (before after : Admitting A) → connection_of after.actor ≡ made → (made ≡ None → events_of before.actor ≡ link_events before.actor)
-    → (made ≡ None → after ≡ before) → connection_of after.actor ≡ None → events_of after.actor ≡ link_events after.actor
-closed_alone {A} made before after is alone none now =
-    let no : made ≡ None = sym is ∙ now in
-    subst (λ (h : Admitting A). events_of h.actor ≡ link_events h.actor) (sym (none no)) (alone no)
 
 -- a reader that awaits the greeting, or is joined, reads as one
 pub read_greeting : {A : Type 0} (role : Role) (r : Reading A) (shake : Shaking) (b : List ℕ) (me : ActorState A) → r ≡ reading.Greeting shake → IsReading role r b me

@@ -200,9 +200,7 @@ pub packets_done : {A : Type 0} (batch : ℕ) (role : Role) (c : ℕ) (idle : Op
     → Took batch c packets me us → HasWrittenPackets end packets before after → WritesPackets batch role Closed c None me before → WritesOn batch role end c idle us after
 packets_done batch role c idle packets me us None before after took did was = packets_written batch role c packets me us before after took did was
 packets_done batch role c idle packets me us (Some (Ok WriteFailed)) before after took did was = packets_broken batch role c idle packets me us before after took did was
-packets_done batch role c idle packets me us (Some (Ok Drained)) before after took did was = absurd did
-packets_done batch role c idle packets me us (Some (Ok Closed)) before after took did was = absurd did
-packets_done batch role c idle packets me us (Some (Ok NeverOpened)) before after took did was = absurd did
+packets_done batch role c idle packets me us (Some (Ok end)) before after took did was = absurd did
 packets_done batch role c idle packets me us (Some (Err fault)) before after took did was = tt
 
 -- so they were where the receipts that were got say so
@@ -219,10 +217,8 @@ packets_taken {A} batch role c idle me us kept seen end before after same is (ta
 
 -- one that took one at once took a batch at once
 wider_row : (batch : ℕ) (end : WriterEnd) (role : Role) (all : List (List ℕ)) (written : List ℕ) → 0 < batch → WriterRow 1 end role all written → WriterRow batch end role all written
-wider_row batch Drained role all written some row = row
-wider_row batch Closed role all written some row = row
 wider_row batch WriteFailed role all written some (done, last, n, parts, more, few, is) = (done, last, n, parts, more, omega arith, is)
-wider_row batch NeverOpened role all written some row = row
+wider_row batch end role all written some row = row
 
 -- what was written where nothing was taken
 pub took_none : {A : Type 0} (batch : ℕ) (role : Role) (end : WriterEnd) (me : ActorState A) (half : WrittenHalf) → 0 < batch → me.receipts ≡ [] → WritesAs 1 role end [] half
@@ -250,10 +246,8 @@ writes_last batch role asked end c idle me half is did = subst (λ (w : Option (
 -- a writer that closes nothing more is done with its steps
 pub steps_kept : {A : Type 0} (role : Role) (end : WriterEnd) (c : ℕ) (found idle : Option ℕ) (own : List (Receipt A)) → ¬ (end ≡ WriteFailed) → PacketSteps end c idle own
     → WriterSteps role end (Some c) found idle own
-steps_kept role Drained c found idle own other steps = steps
-steps_kept role Closed c found idle own other steps = steps
 steps_kept role WriteFailed c found idle own other steps = absurd (other refl)
-steps_kept role NeverOpened c found idle own other steps = absurd steps
+steps_kept role end c found idle own other steps = steps
 
 -- what a close does to the receipts
 then_closed : {A : Type 0} (c : ℕ) (found : Option ℕ) (me us : ActorState A) → HasClosed c found me us → ThenClosed c found me.receipts us.receipts
@@ -263,20 +257,8 @@ then_closed c (Some other) me us (is, same) = (is, ap (λ w. w.receipts) same)
 -- so is one whose write failed, once it has closed its connection, or found it closed
 pub steps_closed : {A : Type 0} (role : Role) (end : WriterEnd) (c : ℕ) (found idle : Option ℕ) (me us : ActorState A) → end ≡ WriteFailed → PacketSteps end c idle me.receipts → HasClosed c found me us
     → WriterSteps role end (Some c) found idle us.receipts
-steps_closed role Drained c found idle me us is steps closed = absurd (cc)
-steps_closed role Closed c found idle me us is steps closed = absurd (cc)
 steps_closed role WriteFailed c found idle me us is steps closed = (me.receipts, steps, then_closed c found me us closed)
-steps_closed role NeverOpened c found idle me us is steps closed = absurd (cc)
-
--- and one that has no connection
-pub steps_uncalled : {A : Type 0} (role : Role) (conn found idle : Option ℕ) (own : List (Receipt A)) → conn ≡ None → is_calling role ≡ true → own ≡ []
-    → WriterSteps role WriteFailed conn found idle own
-steps_uncalled role None found idle own unmet calls none = (calls, none)
-steps_uncalled role (Some c) found idle own unmet calls none = absurd (cc)
-
-pub steps_unmet : {A : Type 0} (role : Role) (conn found idle : Option ℕ) (own : List (Receipt A)) → conn ≡ None → own ≡ [] → WriterSteps role NeverOpened conn found idle own
-steps_unmet role None found idle own unmet none = none
-steps_unmet role (Some c) found idle own unmet none = absurd (cc)
+steps_closed role end c found idle me us is steps closed = absurd (cc)
 
 -- what holds of an end, both
 both_ok : {T E : Type 0} (r : Result T E) (P Q : T → Type 0) → IfOk r P → IfOk r Q → IfOk r (λ x. P x × Q x)

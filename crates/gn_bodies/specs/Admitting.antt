@@ -1,11 +1,12 @@
 -- What a reader admits, and what it does with the jobs.
-use Rattle.std.specs.Prelude.{◌≡◌, ◌⊎◌, ℕ, Bool, true, false, List, [], ◌∷◌, ◌++◌, Option, Some, None}
-use Rattle.gn_rules.specs.Fits.{refuses}
+use Rattle.std.specs.Prelude.{◌≡◌, ℕ, Bool, true, false, List, [], ◌∷◌, ◌++◌, Option, Some, None}
+use Rattle.gn_rules.specs.Fits.{is_at_threshold, refuses}
 use Rattle.gn_rules.specs.declared.event.Event.TheVariants.{Admit, Connect}
 use Rattle.gn_rules.specs.declared.receipt.Receipt.{Receipt}
 use Rattle.gn_rules.specs.declared.refusal.Refusal.{Refusal}
 use Rattle.gn_rules.specs.declared.refusal.Refusal.TheVariants as refusal
-use Rattle.gn_rules.specs.declared.reply.Reply.TheVariants.{Admitted, Busy, Crowded, TooMany}
+use Rattle.gn_rules.specs.declared.reply.Reply.{Reply}
+use Rattle.gn_rules.specs.declared.reply.Reply.TheVariants.{Admitted, TooMany}
 use Rattle.gn_stage.specs.Ends.{End}
 use Rattle.gn_stage.specs.Jobs.{Queued}
 use Rattle.gn_wire.specs.Packet.{Packet}
@@ -61,11 +62,11 @@ pub record HasOnlyConnected {A : Type 0} (made : Option ℕ) (me : ActorState A)
   pub none_left : jobs_left me.receipts ≡ []
   pub turned : made ≡ None → (index : ℕ) × (me.receipts ≡ receipt index Connect TooMany ∷ [])
 
--- an actor got the receipt of an admission: a job with the ticket, or none at a threshold, that of all connections or its own
+-- an actor got the receipt of an admission: a job with the ticket, or none at a threshold
 abbrev pub HasAdmitted : {A : Type 0} → ℕ → Packet → Option Queued → ActorState A → ActorState A → Type 0
-HasAdmitted c d None me us =
-    (index : ℕ) × ((us ≡ with_receipt me (receipt index (Admit c d) Busy))
-    ⊎ (us ≡ with_receipt me (receipt index (Admit c d) Crowded)))
+HasAdmitted {A} c d None me us =
+    (index : ℕ) × (reply : Reply A) × (us ≡ with_receipt me (receipt index (Admit c d) reply))
+    × (is_at_threshold reply ≡ true)
 HasAdmitted c d (Some job) me us =
     (index : ℕ) × (job.descriptor ≡ d) × (us ≡ with_receipt me (receipt index (Admit c d) (Admitted job.ticket)))
 

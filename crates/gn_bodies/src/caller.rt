@@ -282,9 +282,8 @@ fn job_of<A: Allocator>(ticket: Ticket, event: Event<A>) -> Option<Job<A>>
 
 /// What an admission made that was refused with this reply.
 fn refused_by<A: Allocator>(reply: &Reply<A>) -> Made {
-    match reply {
-        Reply::Crowded => Made::Crowded,
-        _ => Made::Busy,
+    Made::Refused {
+        own: matches!(reply, Reply::Crowded),
     }
 }
 

@@ -4,7 +4,7 @@ use Rattle.std.specs.Prelude.{IfOk}
 use Rattle.gn_rules.specs.declared.config.Own.{Own}
 use Rattle.gn_text.specs.declared.fault.CaptureFault.{CaptureFault}
 use Rattle.gn_numbers.specs.declared.version.Version.TheVariants.{Third}
-use Rattle.gn_text.specs.declared.title.Text.TheVariants as text
+use Rattle.gn_numbers.specs.declared.titles.Text.TheVariants as text
 use Rattle.gn_text.specs.Header.{config_from, header_of}
 use Rattle.gn_text.specs.Lines.{is_word}
 use Rattle.gn_text.specs.Faults.{◌>>=◌}

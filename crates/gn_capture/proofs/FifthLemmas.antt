@@ -1,8 +1,8 @@
 -- The first line of a capture, by its version.
 use Rattle.std.proofs.Common.{◌≡◌, ℕ, true, false, List, [], ◌∷◌, refl, Err}
 use Rattle.gn_numbers.specs.declared.version.Version.TheVariants.{Third}
-use Rattle.gn_text.specs.declared.fault.Cause.TheVariants as cause
-use Rattle.gn_text.specs.declared.title.Text.TheVariants as text
+use Rattle.gn_numbers.specs.declared.causes.Cause.TheVariants as cause
+use Rattle.gn_numbers.specs.declared.titles.Text.TheVariants as text
 use Rattle.gn_text.specs.Faults.{fault_at}
 use Rattle.gn_text.specs.Header.{config_from, header_of}
 use Rattle.gn_text.specs.Lines.{is_word}

@@ -9,7 +9,7 @@ use Rattle.gn_text.specs.declared.fault.CaptureFault.{CaptureFault}
 use Rattle.gn_text.specs.declared.fault.CaptureRefusal.{CaptureRefusal}
 use Rattle.gn_text.specs.declared.fault.CaptureRefusal.TheVariants.{Fault, NoMemory}
 use Rattle.gn_text.specs.Faults.{IsRefused}
-use Rattle.gn_text.specs.declared.title.Text.TheVariants.{History}
+use Rattle.gn_numbers.specs.declared.titles.Text.TheVariants.{History}
 use Rattle.gn_text.specs.Header.{header_of}
 use Rattle.gn_text.specs.Parsed.{parsed_of, line_after}
 use Rattle.gn_text.proofs.KeptLemmas.{two_parts}

@@ -1,5 +1,5 @@
-pub mod AloneLemmas
 pub mod ConfigLemmas
+pub mod CountedLemmas
 pub mod DescriptorsAgain
 pub mod EncodedLemmas
 pub mod FifthLemmas

@@ -4,11 +4,12 @@ use Rattle.std.specs.List.{AllByRecursion}
 use Rattle.gn_rules.specs.declared.config.Config.{Config}
 use Rattle.gn_rules.specs.declared.receipt.Step.{Step}
 use Rattle.gn_text.specs.Lines.{lines_of}
-use Rattle.gn_text.specs.declared.title.Text.TheVariants.{History}
+use Rattle.gn_numbers.specs.declared.titles.Text.TheVariants.{History}
 use Rattle.gn_numbers.specs.declared.version.Version.{Version}
-use Rattle.gn_numbers.specs.declared.version.Version.TheVariants.{First, Second, Third}
-use Rattle.gn_text.specs.Titles.{title_of, version_of}
+use Rattle.gn_numbers.specs.declared.version.Version.TheVariants.{First}
+use Rattle.gn_numbers.specs.Names.{title_of}
 use Rattle.gn_numbers.specs.Versions.{version_for}
+use Rattle.gn_numbers.proofs.NameLemmas.{names_read}
 use Rattle.gn_text.specs.Header.{header_of}
 use Rattle.gn_text.specs.Parsed.{numbered_from, parsed_of, line_after}
 use Rattle.gn_text.specs.Settings.{settings_of, config_line, own_line}
@@ -49,18 +50,11 @@ history_fed s steps =
 
 title_line : (version : Version) → IsLine (title_of History version)
 title_line First = refl
-title_line Second = refl
-title_line Third = refl
+title_line version = refl
 
 title_parsed : (version : Version) → IsParsed (title_of History version)
 title_parsed First = refl
-title_parsed Second = refl
-title_parsed Third = refl
-
-title_again : (version : Version) → version_of History (title_of History version) ≡ Some version
-title_again First = refl
-title_again Second = refl
-title_again Third = refl
+title_parsed version = refl
 
 step_lines_are : {A : Type 0} (steps : List (Step A)) → AllByRecursion IsStep steps → AllByRecursion IsLine (step_lines steps)
 step_lines_are [] h = (refl, tt)
@@ -91,7 +85,7 @@ steps_again after n (step ∷ more) h =
 
 header_again : (s : Config) (after : ℕ) (more : List (ℕ × List ℕ)) → IsOwn s.own
     → header_of History after ((1, title s) ∷ (2, config_line s) ∷ (3, own_line s.own) ∷ more) ≡ Ok (settings_of s, more)
-header_again s after more h = rw (title_again (version_for s.numbers), config_again s, own_again s.own h) refl
+header_again s after more h = rw (names_read.titles History (version_for s.numbers), config_again s, own_again s.own h) refl
 
 pub written_is_read : {A : Type 0} → WrittenIsRead A
 written_is_read s steps h k =

@@ -16,7 +16,7 @@ use Rattle.gn_rules.specs.declared.limits.Numbers.{Numbers}
 use Rattle.gn_numbers.specs.declared.version.Later.{Later}
 use Rattle.gn_numbers.specs.declared.version.Version.{Version}
 use Rattle.gn_numbers.specs.declared.version.Version.TheVariants.{First, Second, Third}
-use Rattle.gn_text.specs.Settings.{config_of, numbers_of, numbers_parsed, numbers_within, own_of, config_line, field_text, own_line}
+use Rattle.gn_text.specs.Settings.{config_of, numbers_parsed, numbers_within, own_of, config_line, field_text, own_line}
 use Rattle.gn_numbers.specs.Versions.{later_parsed, later_text, version_for}
 use Rattle.gn_text.proofs.SettingsLemmas.{config_within}
 use Rattle.gn_capture.specs.RoundTrip.{IsOwn}
@@ -120,10 +120,10 @@ later_again s true false e f =
 later_again s false unlimited e f =
     rw (number_below_again 256 s.numbers.life (omega (arith, s.within.life)) (fitting s).life, number_again s.numbers.crowd (fitting s).crowd) refl
 
-numbers_again : (s : Config) → numbers_parsed (version_for s.numbers) (config_fields (version_for s.numbers) s.numbers) ≡ Some (numbers_of s)
+numbers_again : (s : Config) → numbers_parsed (version_for s.numbers) (config_fields (version_for s.numbers) s.numbers) ≡ Some s.numbers
 numbers_again s =
     let f = fitting s in
-    let kept : numbers_within (numbers_of s) ≡ Some (numbers_of s) = rw (config_within s) refl in
+    let kept : numbers_within s.numbers ≡ Some s.numbers = rw (config_within s) refl in
     rw (
       number_again s.numbers.neighbours f.neighbours,
       number_again s.numbers.seen f.seen,
@@ -134,7 +134,7 @@ numbers_again s =
       later_again s (s.numbers.crowd == 0) (s.numbers.life == 0) refl refl,
     ) kept
 
-pub config_again : (s : Config) → config_of (version_for s.numbers) (fields_of (config_line s)) ≡ Some (numbers_of s)
+pub config_again : (s : Config) → config_of (version_for s.numbers) (fields_of (config_line s)) ≡ Some s.numbers
 config_again s =
     let version = version_for s.numbers in
     ap (λ (line : List ℕ). config_of version (fields_of line)) (config_spaced s)

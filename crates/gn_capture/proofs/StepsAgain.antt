@@ -1,7 +1,9 @@
 -- The line of a step is read again.
-use Rattle.std.proofs.Common.{◌≡◌, ℕ, ◌<◌, ◌^◌, List, [], ◌∷◌, ◌++◌, length, take, drop, map, Bool, true, false, refl, sym, ap, ◌∙◌, arith, Some, append-nil, append_assoc, codes, decimal}
+use Rattle.std.proofs.Common.{◌≡◌, ℕ, ◌<◌, ◌^◌, List, [], ◌∷◌, ◌++◌, length, take, drop, map, Bool, true, false, refl, sym, ap, ◌∙◌, arith, Option, Some, None, append-nil, append_assoc, codes, decimal}
 use Rattle.std.specs.Char.{is_ascii_digit}
 use Rattle.std.specs.List.{list_all, AllByRecursion}
+use Rattle.std.specs.Option.{option_map_or}
+use Rattle.std.specs.Prelude.{IfSome}
 use Rattle.std.proofs.lemmas.Bool.{and_parts}
 use Rattle.std.proofs.lemmas.Bool.Decides.{nat_tests}
 use Rattle.std.proofs.lemmas.Grind.{flat_map-append}
@@ -11,16 +13,23 @@ use Rattle.gn_rules.specs.declared.event.Event.{Event}
 use Rattle.gn_rules.specs.declared.event.Event.TheVariants.{Connect, Close, Admit, Route, Take, Originate}
 use Rattle.gn_rules.specs.declared.receipt.Step.{Step}
 use Rattle.gn_rules.specs.declared.reply.DropReason.{DropReason}
-use Rattle.gn_rules.specs.declared.reply.DropReason.TheVariants.{UnknownKind, Malformed, Duplicate, NoRoute, RouteGone, BackToSender, Expired}
 use Rattle.gn_rules.specs.declared.reply.Reply.{Reply}
-use Rattle.gn_rules.specs.declared.reply.Reply.TheVariants.{Connected, TooMany, Closed, Admitted, Busy, Crowded, Routed, Dropped, Taken, Sent}
+use Rattle.gn_rules.specs.declared.reply.Reply.TheVariants.{Routed, Dropped, Taken, Sent}
 use Rattle.gn_rules.specs.declared.sends.Sending.{Sending}
+use Rattle.gn_rules.specs.declared.statistics.Counter.{Counter}
+use Rattle.gn_rules.specs.declared.statistics.Counter.TheVariants.{Connected}
+use Rattle.gn_rules.specs.Plain.{number_of, plain_of}
+use Rattle.gn_rules.specs.Statistics.{counter_of, drop_counter}
+use Rattle.gn_numbers.specs.Names.{counter_name, event_name, place_name, reason_name, reason_named, word_of}
+use Rattle.gn_numbers.specs.Numbers.{◌>>=◌, number_of as number_said}
+use Rattle.gn_numbers.proofs.NameLemmas.{names_read}
 use Rattle.gn_text.specs.Lines.{fields_of, is_word}
 use Rattle.gn_capture.specs.Histories.{ending}
-use Rattle.gn_text.specs.Steps.{event_text, mark_text, packet_text, place_text, reason_text, reply_text, sending_text, sends_text, step_line}
+use Rattle.gn_text.specs.Settings.{field_text}
+use Rattle.gn_text.specs.Steps.{event_rest, event_text, mark_text, packet_text, reply_name, reply_rest, reply_text, sending_text, sends_text, step_line}
 use Rattle.gn_capture.specs.Events.{event_first}
-use Rattle.gn_capture.specs.Replies.{is_unmarked, mark_place, marked_parsed, reason_named, reply_parsed, sending_parsed, sends_parsed}
-use Rattle.gn_capture.specs.RoundTrip.{IsEvent, IsPacket, IsReply, IsSending, IsStep}
+use Rattle.gn_capture.specs.Replies.{is_unmarked, mark_place, marked_parsed, number_or_none, reply_parsed, sending_parsed, sends_parsed}
+use Rattle.gn_capture.specs.RoundTrip.{IsEvent, IsNumber, IsPacket, IsReply, IsSending, IsStep}
 use Rattle.gn_capture.specs.Steps.{step_parsed}
 use Rattle.gn_capture.proofs.DescriptorsAgain.{hex_plain, packet_again}
 use Rattle.gn_capture.proofs.NumbersAgain.{number_again, number_digits, number_nonempty, number_plain}
@@ -29,13 +38,17 @@ use Rattle.gn_capture.proofs.Spaced.{IsLine, IsPlain, all_append, fields_again, 
 
 -- ---- the fields of an event
 
+-- those behind its word
+abbrev behind_event : {A : Type 0} → Event A → List (List ℕ)
+behind_event Connect = []
+behind_event (Close c) = decimal c ∷ []
+behind_event (Admit c d) = decimal c ∷ packet_text d ∷ []
+behind_event (Route t) = decimal t ∷ []
+behind_event (Take c) = decimal c ∷ []
+behind_event (Originate d) = packet_text d ∷ []
+
 abbrev event_fields : {A : Type 0} → Event A → List (List ℕ)
-event_fields Connect = codes "connect" ∷ []
-event_fields (Close c) = codes "close" ∷ decimal c ∷ []
-event_fields (Admit c d) = codes "admit" ∷ decimal c ∷ packet_text d ∷ []
-event_fields (Route t) = codes "route" ∷ decimal t ∷ []
-event_fields (Take c) = codes "take" ∷ decimal c ∷ []
-event_fields (Originate d) = codes "originate" ∷ packet_text d ∷ []
+event_fields e = event_name (word_of e) ∷ behind_event e
 
 last_one : (word field : List ℕ) → word ++ field ≡ word ++ (field ++ [])
 last_one word field = ap (λ (t : List ℕ). word ++ t) (sym (append-nil field))
@@ -43,13 +56,16 @@ last_one word field = ap (λ (t : List ℕ). word ++ t) (sym (append-nil field))
 last_two : (word a b : List ℕ) → ((word ++ a) ++ codes " ") ++ b ≡ word ++ (a ++ (32 ∷ (b ++ [])))
 last_two word a b = simp (append_assoc, append-nil)
 
+behind_spaced : {A : Type 0} (e : Event A) → event_rest e ≡ tail_text (behind_event e)
+behind_spaced Connect = refl
+behind_spaced (Close c) = last_one (codes " ") (decimal c)
+behind_spaced (Admit c d) = last_two (codes " ") (decimal c) (packet_text d)
+behind_spaced (Route t) = last_one (codes " ") (decimal t)
+behind_spaced (Take c) = last_one (codes " ") (decimal c)
+behind_spaced (Originate d) = last_one (codes " ") (packet_text d)
+
 event_spaced : {A : Type 0} (e : Event A) → codes " " ++ event_text e ≡ tail_text (event_fields e)
-event_spaced Connect = refl
-event_spaced (Close c) = last_one (codes " close ") (decimal c)
-event_spaced (Admit c d) = last_two (codes " admit ") (decimal c) (packet_text d)
-event_spaced (Route t) = last_one (codes " route ") (decimal t)
-event_spaced (Take c) = last_one (codes " take ") (decimal c)
-event_spaced (Originate d) = last_one (codes " originate ") (packet_text d)
+event_spaced e = ap (λ (t : List ℕ). codes " " ++ (event_name (word_of e) ++ t)) (behind_spaced e)
 
 packet_plain : (d : Packet) → IsPacket d → IsPlain (packet_text d)
 packet_plain d h = hex_plain _ h.bytes
@@ -132,70 +148,67 @@ sends_again (x ∷ xs) h = one_more x xs (sending_field x) (map sending_field xs
 
 -- ---- the fields of a reply
 
-abbrev reply_fields : {A : Type 0} → Reply A → List (List ℕ)
-reply_fields (Connected c) = codes "connected" ∷ decimal c ∷ []
-reply_fields TooMany = codes "toomany" ∷ []
-reply_fields (Closed count) = codes "closed" ∷ decimal count ∷ []
-reply_fields (Admitted t) = codes "admitted" ∷ decimal t ∷ []
-reply_fields Busy = codes "busy" ∷ []
-reply_fields Crowded = codes "crowded" ∷ []
-reply_fields (Routed sends local) = codes "routed" ∷ place_text local ∷ map sending_field sends
-reply_fields (Dropped reason) = codes "dropped" ∷ reason_text reason ∷ []
-reply_fields (Taken d) = codes "taken" ∷ packet_text d ∷ []
-reply_fields (Sent sends) = codes "sent" ∷ map sending_field sends
+abbrev number_fields : Option ℕ → List (List ℕ)
+number_fields None = []
+number_fields (Some n) = decimal n ∷ []
 
-routed_spaced : (word place sends : List ℕ) → (word ++ place) ++ sends ≡ word ++ (place ++ sends)
-routed_spaced word place sends = append_assoc word place sends
+-- those behind its word
+abbrev behind_reply : {A : Type 0} → Reply A → List (List ℕ)
+behind_reply (Routed sends local) = place_name local ∷ map sending_field sends
+behind_reply (Dropped reason) = reason_name reason ∷ []
+behind_reply (Taken d) = packet_text d ∷ []
+behind_reply (Sent sends) = map sending_field sends
+behind_reply r = number_fields (number_of r)
+
+abbrev reply_fields : {A : Type 0} → Reply A → List (List ℕ)
+reply_fields r = reply_name r ∷ behind_reply r
+
+number_spaced : (number : Option ℕ) → option_map_or field_text number [] ≡ tail_text (number_fields number)
+number_spaced None = refl
+number_spaced (Some n) = last_one (codes " ") (decimal n)
+
+reply_rest_spaced : {A : Type 0} (r : Reply A) → reply_rest r ≡ tail_text (behind_reply r)
+reply_rest_spaced (Routed sends local) = ap (λ (t : List ℕ). (codes " " ++ place_name local) ++ t) (sends_spaced sends)
+reply_rest_spaced (Dropped reason) = last_one (codes " ") (reason_name reason)
+reply_rest_spaced (Taken d) = last_one (codes " ") (packet_text d)
+reply_rest_spaced (Sent sends) = sends_spaced sends
+reply_rest_spaced r = number_spaced (number_of r)
 
 reply_spaced : {A : Type 0} (r : Reply A) → codes " " ++ reply_text r ≡ tail_text (reply_fields r)
-reply_spaced (Connected c) = last_one (codes " connected ") (decimal c)
-reply_spaced TooMany = refl
-reply_spaced (Closed count) = last_one (codes " closed ") (decimal count)
-reply_spaced (Admitted t) = last_one (codes " admitted ") (decimal t)
-reply_spaced Busy = refl
-reply_spaced Crowded = refl
-reply_spaced (Routed sends local) =
-    routed_spaced (codes " routed ") (place_text local) (sends_text sends) ∙ ap (λ (t : List ℕ). codes " routed " ++ (place_text local ++ t)) (sends_spaced sends)
-reply_spaced (Dropped reason) = last_one (codes " dropped ") (reason_text reason)
-reply_spaced (Taken d) = last_one (codes " taken ") (packet_text d)
-reply_spaced (Sent sends) = ap (λ (t : List ℕ). codes " sent" ++ t) (sends_spaced sends)
+reply_spaced r = ap (λ (t : List ℕ). codes " " ++ (reply_name r ++ t)) (reply_rest_spaced r)
 
-reason_plain : (reason : DropReason) → IsPlain (reason_text reason)
-reason_plain UnknownKind = refl
-reason_plain Malformed = refl
-reason_plain Duplicate = refl
-reason_plain NoRoute = refl
-reason_plain RouteGone = refl
-reason_plain BackToSender = refl
-reason_plain Expired = refl
+-- the names are fields
 
-reason_again : (reason : DropReason) → reason_named (reason_text reason) ≡ Some reason
-reason_again UnknownKind = refl
-reason_again Malformed = refl
-reason_again Duplicate = refl
-reason_again NoRoute = refl
-reason_again RouteGone = refl
-reason_again BackToSender = refl
-reason_again Expired = refl
+counter_plain : (k : Counter) → IsPlain (counter_name k)
+counter_plain Connected = refl
+counter_plain k = refl
 
-place_plain : (local : Bool) → IsPlain (place_text local)
+reply_name_plain : {A : Type 0} (r : Reply A) → IsPlain (reply_name r)
+reply_name_plain (Dropped reason) = refl
+reply_name_plain r = counter_plain (counter_of r)
+
+place_plain : (local : Bool) → IsPlain (place_name local)
 place_plain true = refl
 place_plain false = refl
 
+number_fields_plain : (number : Option ℕ) → IfSome number IsNumber → AllByRecursion IsPlain (number_fields number)
+number_fields_plain None h = tt
+number_fields_plain (Some n) h = (number_plain n h, tt)
+
+behind_reply_plain : {A : Type 0} (r : Reply A) → IsReply r → AllByRecursion IsPlain (behind_reply r)
+behind_reply_plain (Routed sends local) h = (place_plain local, sends_plain sends h)
+behind_reply_plain (Dropped reason) h = (counter_plain (drop_counter reason), tt)
+behind_reply_plain (Taken d) h = (packet_plain d h, tt)
+behind_reply_plain (Sent sends) h = sends_plain sends h
+behind_reply_plain r h = number_fields_plain (number_of r) h
+
 reply_plain : {A : Type 0} (r : Reply A) → IsReply r → AllByRecursion IsPlain (reply_fields r)
-reply_plain (Connected c) h = (refl, (number_plain c h, tt))
-reply_plain TooMany h = (refl, tt)
-reply_plain (Closed count) h = (refl, (number_plain count h, tt))
-reply_plain (Admitted t) h = (refl, (number_plain t h, tt))
-reply_plain Busy h = (refl, tt)
-reply_plain Crowded h = (refl, tt)
-reply_plain (Routed sends local) h = (refl, (place_plain local, sends_plain sends h))
-reply_plain (Dropped reason) h = (refl, (reason_plain reason, tt))
-reply_plain (Taken d) h = (refl, (packet_plain d h, tt))
-reply_plain (Sent sends) h = (refl, sends_plain sends h)
+reply_plain r h = (reply_name_plain r, behind_reply_plain r h)
+
+-- and are read
 
 routed_again : {A : Type 0} (sends : List (Sending A)) (local : Bool) (more : List (List ℕ)) → sends_parsed more ≡ Some sends
-    → reply_parsed (codes "routed" ∷ place_text local ∷ more) ≡ Some (Routed sends local)
+    → reply_parsed (codes "routed" ∷ place_name local ∷ more) ≡ Some (Routed sends local)
 routed_again sends true more e = rw e refl
 routed_again sends false more e = rw e refl
 
@@ -207,17 +220,16 @@ dropped_again : {A : Type 0} (field : List ℕ) (reason : DropReason) → reason
     → reply_parsed {A = A} (codes "dropped" ∷ field ∷ []) ≡ Some (Dropped reason)
 dropped_again field reason e = rw e refl
 
+number_fields_again : (number : Option ℕ) → IfSome number IsNumber → number_or_none (number_fields number) ≡ Some number
+number_fields_again None h = refl
+number_fields_again (Some n) h = rw (number_again n h) refl
+
 reply_again : {A : Type 0} (r : Reply A) → IsReply r → reply_parsed (reply_fields r) ≡ Some r
-reply_again (Connected c) h = rw (number_again c h) refl
-reply_again TooMany h = refl
-reply_again (Closed count) h = rw (number_again count h) refl
-reply_again (Admitted t) h = rw (number_again t h) refl
-reply_again Busy h = refl
-reply_again Crowded h = refl
 reply_again (Routed sends local) h = routed_again sends local (map sending_field sends) (sends_again sends h)
-reply_again (Dropped reason) h = dropped_again (reason_text reason) reason (reason_again reason)
+reply_again (Dropped reason) h = dropped_again (reason_name reason) reason (names_read.reasons reason)
 reply_again (Taken d) h = rw (packet_again d h) refl
 reply_again (Sent sends) h = sent_again sends (map sending_field sends) (sends_again sends h)
+reply_again {A} r h = ap (λ (number : Option (Option ℕ)). number >>= plain_of {A = A} (counter_of r)) (number_fields_again (number_of r) h)
 
 -- ---- a step
 
@@ -251,9 +263,15 @@ pub step_goes_on : {A : Type 0} (step : Step A) → IsStep step → is_word (ste
 step_goes_on step h =
     rw (step_spaced step) (number_goes_on (decimal step.actor) (tail_text (step_fields step)) (number_nonempty step.actor h.actor) (number_digits step.actor h.actor))
 
+-- a step is said by the fields of its actor, its event and its reply
+said_by_parts : {A : Type 0} (step : Step A) (actor : List ℕ) (fields answer : List (List ℕ)) → number_said actor ≡ Some step.actor
+    → event_first fields ≡ Some (step.event, codes "=" ∷ answer) → reply_parsed answer ≡ Some step.reply → step_parsed (actor ∷ fields) ≡ Some step
+said_by_parts step actor fields answer e f g = rw (e, f, g) refl
+
 parsed_again : {A : Type 0} (step : Step A) → IsStep step → step_parsed (decimal step.actor ∷ step_fields step) ≡ Some step
 parsed_again step h =
-    rw (number_again step.actor h.actor, event_again step.event (codes "=" ∷ reply_fields step.reply) h.event, reply_again step.reply h.reply) refl
+    said_by_parts step (decimal step.actor) (step_fields step) (reply_fields step.reply) (number_again step.actor h.actor)
+    (event_again step.event (codes "=" ∷ reply_fields step.reply) h.event) (reply_again step.reply h.reply)
 
 -- the line of a step is read again
 pub step_again : {A : Type 0} (step : Step A) → IsStep step → step_parsed (fields_of (step_line step)) ≡ Some step

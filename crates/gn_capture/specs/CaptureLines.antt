@@ -3,17 +3,17 @@ use Rattle.std.specs.Prelude.{ℕ, Bool, false, ◌+◌, ◌==◌, ◌&&◌, nat
 use Rattle.gn_rules.specs.Limits.{most_links}
 use Rattle.gn_text.specs.Bytes.{bytes_parsed}
 use Rattle.gn_text.specs.Lines.{is_word}
+use Rattle.gn_numbers.specs.Names.{line_word_named}
 use Rattle.gn_numbers.specs.Numbers.{number_of}
-use Rattle.gn_text.specs.declared.fault.Cause.{Cause}
-use Rattle.gn_text.specs.declared.fault.Cause.TheVariants as cause
+use Rattle.gn_numbers.specs.declared.causes.Cause.{Cause}
+use Rattle.gn_numbers.specs.declared.causes.Cause.TheVariants as cause
 use Rattle.gn_capture.specs.declared.line.Line.{Line}
 use Rattle.gn_capture.specs.declared.line.Line.TheVariants.{Join, Greeted, Piece, Route, RouteAll, Take, Close, Originate, Stats}
-use Rattle.gn_capture.specs.declared.word.Word.{Word}
-use Rattle.gn_capture.specs.declared.word.Word.TheVariants as word
+use Rattle.gn_numbers.specs.declared.words.LineWord.{LineWord}
+use Rattle.gn_numbers.specs.declared.words.LineWord.TheVariants as word
 use Rattle.gn_text.specs.Faults.{◌>>=◌}
 use Rattle.gn_capture.specs.Outcomes.{parsed}
 use Rattle.gn_capture.specs.Requests.{ping_of, query_of}
-use Rattle.gn_capture.specs.Words.{word_of}
 
 -- a line that takes no fields
 abbrev pub alone_of : {X : Type 0} → X → List (List ℕ) → Result X Cause
@@ -44,7 +44,7 @@ data_of links (link ∷ hex ∷ []) = do
 data_of links _ = Err cause.Fields
 
 -- what the fields after a word say
-abbrev pub fields_say : {A : Type 0} → ℕ → List (List ℕ) → Word → Result (Line A) Cause
+abbrev pub fields_say : {A : Type 0} → ℕ → List (List ℕ) → LineWord → Result (Line A) Cause
 fields_say links fields word.Join = link_of Join links fields
 fields_say links fields word.Open = link_of Greeted links fields
 fields_say links fields word.Data = data_of links fields
@@ -66,7 +66,7 @@ fields_say links fields word.Query = do
 fields_say links fields word.Stats = alone_of Stats fields
 
 -- a word that lines begin with; another is the cause
-abbrev pub known : Option Word → Result Word Cause
+abbrev pub known : Option LineWord → Result LineWord Cause
 known None = Err cause.Word
 known (Some x) = Ok x
 
@@ -74,7 +74,7 @@ known (Some x) = Ok x
 abbrev pub line_of : {A : Type 0} → ℕ → List (List ℕ) → Result (Line A) Cause
 line_of links [] = Err cause.Word
 line_of links (first ∷ fields) = do
-  begun ← known (word_of first)
+  begun ← known (line_word_named first)
   fields_say links fields begun
 
 -- whether the fields are those of the line `route all`

@@ -5,7 +5,7 @@ use Rattle.gn_numbers.specs.declared.version.Version.TheVariants.{Third}
 use Rattle.gn_text.specs.Lines.{fields_of, is_word}
 use Rattle.gn_text.specs.declared.fault.CaptureFault.{CaptureFault}
 use Rattle.gn_text.specs.Faults.{◌>>=◌}
-use Rattle.gn_text.specs.declared.title.Text.TheVariants as text
+use Rattle.gn_numbers.specs.declared.titles.Text.TheVariants as text
 use Rattle.gn_text.specs.Header.{config_from, header_of}
 use Rattle.gn_text.specs.Parsed.{line_after, parsed_of}
 use Rattle.gn_rules.specs.declared.limits.Numbers.{Numbers}

@@ -1,10 +1,12 @@
 -- What the fields of a step line say of its event.
-use Rattle.std.specs.Prelude.{ℕ, if◌then◌else◌, List, [], ◌∷◌, map, codes, Option, Some, None}
+use Rattle.std.specs.Prelude.{ℕ, List, [], ◌∷◌, map, Option, Some, None}
 use Rattle.std.proofs.Common.{Bor}
 use Rattle.gn_wire.specs.Packet.{Packet}
 use Rattle.gn_rules.specs.declared.event.Event.{Event}
 use Rattle.gn_rules.specs.declared.event.Event.TheVariants.{Connect, Close, Admit, Route, Take, Originate}
-use Rattle.gn_text.specs.Lines.{is_word}
+use Rattle.gn_numbers.specs.declared.events.EventWord.{EventWord}
+use Rattle.gn_numbers.specs.declared.events.EventWord.TheVariants as word
+use Rattle.gn_numbers.specs.Names.{event_named}
 use Rattle.gn_numbers.specs.Numbers.{number_of, ◌>>=◌}
 use Rattle.gn_capture.specs.Packets.{packet_parsed}
 
@@ -33,14 +35,16 @@ admit_first fields = do
   packet ← packet_first c.1
   Some (Admit c.0 packet.0, packet.1)
 
+-- the event of this word, of which the first fields behind it say the rest, and the fields after them
+abbrev pub event_by : {A : Type 0} → List (List ℕ) → EventWord → Option (Event A × List (List ℕ))
+event_by fields word.Connect = Some (Connect, fields)
+event_by fields word.Close = number_first fields >>= λ c. Some (Close c.0, c.1)
+event_by fields word.Admit = admit_first fields
+event_by fields word.Route = number_first fields >>= λ t. Some (Route t.0, t.1)
+event_by fields word.Take = number_first fields >>= λ c. Some (Take c.0, c.1)
+event_by fields word.Originate = packet_first fields >>= λ d. Some (Originate d.0, d.1)
+
 -- the event that the first fields say, and the fields after them
 abbrev pub event_first : {A : Type 0} → List (List ℕ) → Option (Event A × List (List ℕ))
 event_first [] = None
-event_first (word ∷ more) =
-    if is_word word (codes "connect") then Some (Connect, more)
-    else if is_word word (codes "close") then (number_first more >>= λ c. Some (Close c.0, c.1))
-    else if is_word word (codes "admit") then admit_first more
-    else if is_word word (codes "route") then (number_first more >>= λ t. Some (Route t.0, t.1))
-    else if is_word word (codes "take") then (number_first more >>= λ c. Some (Take c.0, c.1))
-    else if is_word word (codes "originate") then (packet_first more >>= λ d. Some (Originate d.0, d.1))
-    else None
+event_first (word ∷ more) = event_named word >>= event_by more

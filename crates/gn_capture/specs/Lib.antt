@@ -10,6 +10,5 @@ pub mod Replies
 pub mod Requests
 pub mod RoundTrip
 pub mod Steps
-pub mod Words
 -- Words of the proofs.
 pub mod Known

@@ -1,7 +1,7 @@
 -- What reading one line comes to: what it says, or its first cause.
 use Rattle.std.specs.Prelude.{◌≡◌, ℕ, Option, Some, None, Result, Ok, Err}
-use Rattle.gn_text.specs.declared.fault.Cause.{Cause}
-use Rattle.gn_text.specs.declared.fault.Cause.TheVariants.{Field}
+use Rattle.gn_numbers.specs.declared.causes.Cause.{Cause}
+use Rattle.gn_numbers.specs.declared.causes.Cause.TheVariants.{Field}
 use Rattle.gn_text.specs.declared.fault.CaptureFault.{CaptureFault}
 use Rattle.gn_text.specs.declared.fault.CaptureRefusal.{CaptureRefusal}
 use Rattle.gn_text.specs.declared.fault.CaptureRefusal.TheVariants as whole

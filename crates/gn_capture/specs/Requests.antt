@@ -8,8 +8,8 @@ use Rattle.gn_payload.specs.Refusals.{has_zero}
 use Rattle.gn_payload.specs.Encoding.{query_bytes}
 use Rattle.gn_text.specs.Bytes.{bytes_parsed, guid_of}
 use Rattle.gn_numbers.specs.Numbers.{number_below}
-use Rattle.gn_text.specs.declared.fault.Cause.{Cause}
-use Rattle.gn_text.specs.declared.fault.Cause.TheVariants.{Fields, Field}
+use Rattle.gn_numbers.specs.declared.causes.Cause.{Cause}
+use Rattle.gn_numbers.specs.declared.causes.Cause.TheVariants.{Fields, Field}
 use Rattle.gn_text.specs.Faults.{◌>>=◌}
 use Rattle.gn_capture.specs.Outcomes.{parsed}
 

@@ -1,5 +1,5 @@
 -- What is written is read again.
-use Rattle.std.specs.Prelude.{◌≡◌, ◌<◌, ◌^◌, ℕ, List, length, Some, Ok}
+use Rattle.std.specs.Prelude.{◌≡◌, ◌<◌, ◌^◌, ℕ, List, length, IfSome, Some, Ok}
 use Rattle.std.specs.List.{AllByRecursion}
 use Rattle.hex.specs.Hex.{IsBytes}
 use Rattle.gn_wire.specs.Packet.{IsDescriptor, Packet}
@@ -10,8 +10,9 @@ use Rattle.gn_rules.specs.declared.event.Event.{Event}
 use Rattle.gn_rules.specs.declared.event.Event.TheVariants.{Connect, Close, Admit, Route, Take, Originate}
 use Rattle.gn_rules.specs.declared.receipt.Step.{Step}
 use Rattle.gn_rules.specs.declared.reply.Reply.{Reply}
-use Rattle.gn_rules.specs.declared.reply.Reply.TheVariants.{Connected, TooMany, Closed, Admitted, Busy, Crowded, Routed, Dropped, Taken, Sent}
+use Rattle.gn_rules.specs.declared.reply.Reply.TheVariants.{Routed, Taken, Sent}
 use Rattle.gn_rules.specs.declared.sends.Sending.{Sending}
+use Rattle.gn_rules.specs.Plain.{number_of}
 use Rattle.gn_text.specs.Settings.{settings_of}
 use Rattle.gn_capture.specs.Packets.{packet_of}
 use Rattle.gn_capture.specs.Histories.{history_of, history_text}
@@ -43,16 +44,10 @@ IsEvent (Originate d) = IsPacket d
 
 -- a reply of such numbers and bytes
 abbrev pub IsReply : {A : Type 0} → Reply A → Type 0
-IsReply (Connected c) = IsNumber c
-IsReply TooMany = Unit {0}
-IsReply (Closed count) = IsNumber count
-IsReply (Admitted t) = IsNumber t
-IsReply Busy = Unit {0}
-IsReply Crowded = Unit {0}
 IsReply (Routed sends local) = AllByRecursion IsSending sends
-IsReply (Dropped reason) = Unit {0}
 IsReply (Taken d) = IsPacket d
 IsReply (Sent sends) = AllByRecursion IsSending sends
+IsReply reply = IfSome (number_of reply) IsNumber
 
 -- a step of such numbers and bytes
 pub record IsStep {A : Type 0} (step : Step A) : Type 0 where

@@ -1,7 +1,7 @@
 //! That numbers and bytes fit their types, as promises that proofs can cite. These functions change nothing and take no
 //! memory.
 
-ghost use Rattle.std.specs.Prelude.{◌≡◌, ◌<◌, ◌^◌, length};
+ghost use Rattle.std.specs.Prelude.{◌≡◌, ◌<◌, ◌^◌, length, IfSome};
 ghost use Rattle.std.specs.List.{AllByRecursion};
 ghost use Rattle.hex.specs.Hex.{IsBytes};
 ghost use Rattle.gn_capture.specs.RoundTrip.{IsEvent, IsNumber, IsOwn, IsPacket, IsReply, IsSending, IsStep};
@@ -14,6 +14,16 @@ use std::alloc::Allocator;
 fn number_fits(_number: u32)
     ensures { IsNumber _number }
 {}
+
+/// So is one that may be missing.
+fn number_fits_if(number: Option<u32>)
+    ensures { IfSome number IsNumber }
+{
+    match number {
+        Some(number) => number_fits(number),
+        None => {}
+    }
+}
 
 /// Bytes are below 256.
 fn bytes_fit(_bytes: &[u8])
@@ -78,12 +88,9 @@ fn reply_fits<A: Allocator>(reply: &Reply<A>)
     ensures { IsReply reply.now }
 {
     match reply {
-        Reply::TooMany | Reply::Busy | Reply::Crowded | Reply::Dropped(_) => {}
-        Reply::Connected(number) | Reply::Closed(number) | Reply::Admitted(number) => {
-            number_fits(*number);
-        }
         Reply::Routed { sends, .. } | Reply::Sent(sends) => sends_fit(sends.as_slice()),
         Reply::Taken(packet) => packet_fits(packet),
+        _ => number_fits_if(reply.number()),
     }
 }
 

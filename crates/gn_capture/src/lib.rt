@@ -18,7 +18,6 @@ mod refusal;
 mod reply;
 mod sends;
 mod step;
-mod word;
 
 pub use capture::{Capture, read_capture};
 pub use gn_text::{CaptureFault, CaptureRefusal, Cause};

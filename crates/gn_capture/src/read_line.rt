@@ -11,7 +11,7 @@ use crate::event_lines::{alone, data_line, is_route_all, link_line, number_alone
 use crate::line::{Line, LocalRequest};
 use crate::query_line::{ping_line, query_line};
 use crate::refusal::LineRefusal;
-use crate::word::{Word, word_in};
+use gn_numbers::{LineWord, line_word_named};
 use gn_text::{CaptureRefusal, Cause, fields_into};
 use gn_wire::Descriptor;
 use std::alloc::Allocator;
@@ -28,20 +28,20 @@ fn read_fields<A: Allocator + Copy>(
     alloc: A,
     links: u64,
     fields: &[&[u8]],
-    word: Word,
+    word: LineWord,
 ) -> Result<Line<A>, LineRefusal>
     ensures { IsLineRead result (fields_say links (map (λ x. x.now) fields.now) word) }
 {
     match word {
-        Word::Join => Ok(link_line(Line::Join, links, fields)?),
-        Word::Open => Ok(link_line(Line::Greeted, links, fields)?),
-        Word::Data => data_line(alloc, links, fields),
-        Word::Route => Ok(Line::Route(number_alone(fields)?)),
-        Word::Take => Ok(Line::Take(number_alone(fields)?)),
-        Word::Close => Ok(Line::Close(number_alone(fields)?)),
-        Word::Ping => request_line(alloc, ping_line(alloc, fields)?),
-        Word::Query => request_line(alloc, query_line(alloc, fields)?),
-        Word::Stats => Ok(alone(Line::Stats, fields)?),
+        LineWord::Join => Ok(link_line(Line::Join, links, fields)?),
+        LineWord::Open => Ok(link_line(Line::Greeted, links, fields)?),
+        LineWord::Data => data_line(alloc, links, fields),
+        LineWord::Route => Ok(Line::Route(number_alone(fields)?)),
+        LineWord::Take => Ok(Line::Take(number_alone(fields)?)),
+        LineWord::Close => Ok(Line::Close(number_alone(fields)?)),
+        LineWord::Ping => request_line(alloc, ping_line(alloc, fields)?),
+        LineWord::Query => request_line(alloc, query_line(alloc, fields)?),
+        LineWord::Stats => Ok(alone(Line::Stats, fields)?),
     }
 }
 
@@ -54,7 +54,7 @@ fn read_common<A: Allocator + Copy>(
     ensures { IsLineRead result (line_of links (map (λ x. x.now) fields.now)) }
 {
     match fields {
-        [first, fields @ ..] => match word_in(first) {
+        [first, fields @ ..] => match line_word_named(first) {
             Some(word) => read_fields(alloc, links, fields, word),
             None => Err(LineRefusal::Fault(Cause::Word)),
         },

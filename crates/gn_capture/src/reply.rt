@@ -2,51 +2,16 @@
 
 ghost use Rattle.std.specs.Prelude.{◌≡◌, IfOk, map};
 ghost use Rattle.gn_capture.specs.Packets.{packet_parsed};
-ghost use Rattle.gn_capture.specs.Replies.{alone, packets_parsed, place_named, reason_named, reply_parsed, routed_parsed, unnumbered_parsed};
+ghost use Rattle.gn_numbers.specs.Names.{reason_named};
+ghost use Rattle.gn_capture.specs.Replies.{alone, counted_by, number_or_none, plain_parsed, reply_parsed, routed_parsed};
 
-use crate::event_lines::number_alone;
 use crate::packet::read_packet;
 use crate::sends::read_sends;
-use gn_rules::{DropReason, Reply};
-use gn_text::is_word;
+use gn_numbers::{counter_named, place_named, reason_named};
+use gn_rules::{Counter, DropReason, Reply};
+use gn_text::{is_word, number};
 use gn_wire::Descriptor;
 use std::alloc::{AllocError, Allocator};
-
-/// The reason to drop that a word names.
-fn reason_named(field: &[u8]) -> Option<DropReason>
-    ensures { result ≡ reason_named field.now }
-{
-    if is_word(field, b"unknownkind") {
-        Some(DropReason::UnknownKind)
-    } else if is_word(field, b"malformed") {
-        Some(DropReason::Malformed)
-    } else if is_word(field, b"duplicate") {
-        Some(DropReason::Duplicate)
-    } else if is_word(field, b"noroute") {
-        Some(DropReason::NoRoute)
-    } else if is_word(field, b"routegone") {
-        Some(DropReason::RouteGone)
-    } else if is_word(field, b"backtosender") {
-        Some(DropReason::BackToSender)
-    } else if is_word(field, b"expired") {
-        Some(DropReason::Expired)
-    } else {
-        None
-    }
-}
-
-/// Whether the word is `local` and not `away`; `None` where it is neither.
-fn place_named(field: &[u8]) -> Option<bool>
-    ensures { result ≡ place_named field.now }
-{
-    if is_word(field, b"local") {
-        Some(true)
-    } else if is_word(field, b"away") {
-        Some(false)
-    } else {
-        None
-    }
-}
 
 /// The reason that a single field names.
 fn reason_alone(fields: &[&[u8]]) -> Option<DropReason>
@@ -90,72 +55,50 @@ fn read_routed<A: Allocator + Copy>(
     }
 }
 
-/// A reply with packets, of this word and the fields after it. An `Err` is out of memory.
-fn read_packets<A: Allocator + Copy>(
-    alloc: A,
-    word: &[u8],
-    more: &[&[u8]],
-) -> Result<Option<Reply<A>>, AllocError>
-    ensures { IfOk result (λ found. found ≡ packets_parsed word.now (map (λ x. x.now) more.now)) }
+/// The number of a single field; none, where there is no field.
+fn number_or_none(fields: &[&[u8]]) -> Option<Option<u32>>
+    ensures { result ≡ number_or_none (map (λ x. x.now) fields.now) }
 {
-    if is_word(word, b"routed") {
-        return read_routed(alloc, more);
+    match fields {
+        [] => Some(None),
+        [field] => match number(field) {
+            Some(n) => Some(Some(n)),
+            None => None,
+        },
+        _ => None,
     }
-    if is_word(word, b"taken") {
-        return match packet_alone(alloc, more)? {
-            Some(packet) => Ok(Some(Reply::Taken(packet))),
-            None => Ok(None),
-        };
-    }
-    if is_word(word, b"sent") {
-        return match read_sends(alloc, more)? {
-            Some(sends) => Ok(Some(Reply::Sent(sends))),
-            None => Ok(None),
-        };
-    }
-    Ok(None)
 }
 
-/// A reply without a number, of this word and the fields after it. An `Err` is out of memory.
-fn read_unnumbered<A: Allocator + Copy>(
-    alloc: A,
-    word: &[u8],
-    more: &[&[u8]],
-) -> Result<Option<Reply<A>>, AllocError>
-    ensures { IfOk result (λ found. found ≡ unnumbered_parsed word.now (map (λ x. x.now) more.now)) }
+/// The plain reply of this counter, by the fields behind its word.
+fn read_plain<A: Allocator>(fields: &[&[u8]], counter: Counter) -> Option<Reply<A>>
+    ensures { result ≡ plain_parsed (map (λ x. x.now) fields.now) counter }
 {
-    if is_word(word, b"toomany") {
-        return Ok(if more.is_empty() {
-            Some(Reply::TooMany)
-        } else {
-            None
-        });
-    }
-    if is_word(word, b"busy") {
-        return Ok(if more.is_empty() {
-            Some(Reply::Busy)
-        } else {
-            None
-        });
-    }
-    if is_word(word, b"crowded") {
-        return Ok(if more.is_empty() {
-            Some(Reply::Crowded)
-        } else {
-            None
-        });
-    }
-    if is_word(word, b"dropped") {
-        return match reason_alone(more) {
-            Some(reason) => Ok(Some(Reply::Dropped(reason))),
+    Reply::plain(counter, number_or_none(fields)?)
+}
+
+/// The reply of this counter, by the fields behind its word. An `Err` is out of memory.
+fn read_counted<A: Allocator + Copy>(
+    alloc: A,
+    fields: &[&[u8]],
+    counter: Counter,
+) -> Result<Option<Reply<A>>, AllocError>
+    ensures { IfOk result (λ found. found ≡ counted_by (map (λ x. x.now) fields.now) counter) }
+{
+    match counter {
+        Counter::Routed => read_routed(alloc, fields),
+        Counter::Taken => match packet_alone(alloc, fields)? {
+            Some(packet) => Ok(Some(Reply::Taken(packet))),
             None => Ok(None),
-        };
+        },
+        Counter::Sent => match read_sends(alloc, fields)? {
+            Some(sends) => Ok(Some(Reply::Sent(sends))),
+            None => Ok(None),
+        },
+        _ => Ok(read_plain(fields, counter)),
     }
-    read_packets(alloc, word, more)
 }
 
 /// The reply that fields say. An `Err` is out of memory.
-#[tactic(auto, using(crate::proofs::AloneLemmas::number_found))]
 pub(crate) fn read_reply<A: Allocator + Copy>(
     alloc: A,
     fields: &[&[u8]],
@@ -165,23 +108,14 @@ pub(crate) fn read_reply<A: Allocator + Copy>(
     let Some((word, more)) = fields.split_first() else {
         return Ok(None);
     };
-    if is_word(word, b"connected") {
-        return match number_alone(more) {
-            Ok(c) => Ok(Some(Reply::Connected(c))),
-            Err(_) => Ok(None),
+    if is_word(word, b"dropped") {
+        return match reason_alone(more) {
+            Some(reason) => Ok(Some(Reply::Dropped(reason))),
+            None => Ok(None),
         };
     }
-    if is_word(word, b"closed") {
-        return match number_alone(more) {
-            Ok(count) => Ok(Some(Reply::Closed(count))),
-            Err(_) => Ok(None),
-        };
+    match counter_named(word) {
+        Some(counter) => read_counted(alloc, more, counter),
+        None => Ok(None),
     }
-    if is_word(word, b"admitted") {
-        return match number_alone(more) {
-            Ok(t) => Ok(Some(Reply::Admitted(t))),
-            Err(_) => Ok(None),
-        };
-    }
-    read_unnumbered(alloc, word, more)
 }

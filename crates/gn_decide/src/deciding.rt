@@ -2,16 +2,18 @@
 
 ghost use Rattle.std.specs.Prelude.{◌≡◌, reverse};
 ghost use Rattle.gn_wire.specs.Keys.{key_of};
-ghost use Rattle.gn_wire.specs.declared.kind.Kind.TheVariants.{Ping, Push};
+ghost use Rattle.gn_wire.specs.declared.kind.Kind.TheVariants.{Push};
 ghost use Rattle.gn_rules.specs.Decision as rules;
+ghost use Rattle.gn_rules.specs.Routings.{routing_of};
 ghost use Rattle.gn_rules.specs.SeenEntries as seen_entries;
+ghost use Rattle.gn_rules.specs.declared.routing.Routing.TheVariants.{Floods, Pushed};
 ghost use Rattle.gn_decide.specs.Planned.{Decides};
 
 use crate::lookup::Lookup;
 use crate::made::{Forwarded, Made};
 use crate::plan::{Outgoing, Plan};
 use gn_payload::{Verdict, servent_of_push};
-use gn_rules::{ConnId, DropReason, Reply};
+use gn_rules::{ConnId, DropReason, Reply, Routing};
 use gn_wire::{Descriptor, Key, Kind};
 use std::alloc::Allocator;
 
@@ -54,7 +56,7 @@ pub(crate) fn is_remembered<A: Allocator, L: Lookup<A>>(past: &L, packet: &Descr
     past.source(&packet.key()).is_some()
 }
 
-/// What becomes of a Ping or Query: a duplicate where its key is remembered, else it goes on.
+/// What becomes of a request: a duplicate where its key is remembered, else it goes on.
 #[inline(always)]
 fn decide_request<'a, A: Allocator, L: Lookup<A>>(
     past: &L,
@@ -62,7 +64,7 @@ fn decide_request<'a, A: Allocator, L: Lookup<A>>(
     packet: &'a Descriptor<A>,
 ) -> Plan<'a, A>
     ensures { Decides (L.settings past.now) (reverse (L.steps past.now)) origin packet.now
-        (λ a. rules.decide_sound (L.settings past.now) (reverse (L.steps past.now)) a Ping) result }
+        (λ a. rules.decide_routed (L.settings past.now) (reverse (L.steps past.now)) a Floods) result }
 {
     if is_remembered(past, packet) {
         return Plan::Ready(Reply::Dropped(DropReason::Duplicate));
@@ -70,8 +72,7 @@ fn decide_request<'a, A: Allocator, L: Lookup<A>>(
     Plan::Routed(Outgoing::Flood(origin, packet), true)
 }
 
-/// What becomes of a Pong or Query Hit, which answers a request of this kind: it goes back to where the request came
-/// from.
+/// What becomes of a response to requests of this kind: it goes back to where its request came from.
 #[inline(always)]
 fn decide_reply<'a, A: Allocator, L: Lookup<A>>(
     past: &L,
@@ -104,7 +105,7 @@ fn decide_push<'a, A: Allocator, L: Lookup<A>>(
 ) -> Plan<'a, A>
     requires { packet.now.kind ≡ Push }
     ensures { Decides (L.settings past.now) (reverse (L.steps past.now)) origin packet.now
-        (λ a. rules.decide_sound (L.settings past.now) (reverse (L.steps past.now)) a Push) result }
+        (λ a. rules.decide_routed (L.settings past.now) (reverse (L.steps past.now)) a Pushed) result }
 {
     if is_remembered(past, packet) {
         return Plan::Ready(Reply::Dropped(DropReason::Duplicate));
@@ -119,7 +120,27 @@ fn decide_push<'a, A: Allocator, L: Lookup<A>>(
     }
 }
 
-/// What becomes of a descriptor whose payload can be read, by its kind.
+/// What becomes of a descriptor whose payload can be read, by the routing of its kind.
+#[inline(always)]
+fn decide_routed<'a, A: Allocator, L: Lookup<A>>(
+    past: &L,
+    origin: ConnId,
+    packet: &'a Descriptor<A>,
+    routing: Routing,
+) -> Plan<'a, A>
+    requires { routing ≡ routing_of packet.now.kind }
+    ensures { Decides (L.settings past.now) (reverse (L.steps past.now)) origin packet.now
+        (λ a. rules.decide_routed (L.settings past.now) (reverse (L.steps past.now)) a routing) result }
+{
+    match routing {
+        Routing::Floods => decide_request(past, origin, packet),
+        Routing::Back(request) => decide_reply(past, origin, packet, request),
+        Routing::Pushed => decide_push(past, origin, packet),
+        Routing::Unnamed => Plan::Ready(Reply::Dropped(DropReason::UnknownKind)),
+    }
+}
+
+/// What becomes of a descriptor whose payload can be read.
 #[inline(always)]
 fn decide_sound<'a, A: Allocator, L: Lookup<A>>(
     past: &L,
@@ -129,13 +150,7 @@ fn decide_sound<'a, A: Allocator, L: Lookup<A>>(
     ensures { Decides (L.settings past.now) (reverse (L.steps past.now)) origin packet.now
         (λ a. rules.decide_sound (L.settings past.now) (reverse (L.steps past.now)) a packet.now.kind) result }
 {
-    match packet.kind() {
-        Kind::Ping | Kind::Query => decide_request(past, origin, packet),
-        Kind::Pong => decide_reply(past, origin, packet, Kind::Ping),
-        Kind::QueryHit => decide_reply(past, origin, packet, Kind::Query),
-        Kind::Push => decide_push(past, origin, packet),
-        Kind::Unknown(_) => Plan::Ready(Reply::Dropped(DropReason::UnknownKind)),
-    }
+    decide_routed(past, origin, packet, Routing::of(packet.kind()))
 }
 
 /// What becomes of a descriptor of this connection that was checked with this verdict. Takes no memory.

@@ -72,9 +72,9 @@ fn serve<W: Watch, R: Wait>(rt: &R, watch: &W, now: &Cell<u64>) {
     watch.open(u32::MAX);
     watch.came(rt, 0, SocketAddr::from((Ipv4Addr::LOCALHOST, 5_000)));
     admit(watch, now);
-    watch.made(Place::of(0), Made::Busy);
+    watch.made(Place::of(0), Made::Refused { own: false });
     for _ in 0..6 {
-        watch.made(Place::of(0), Made::Crowded);
+        watch.made(Place::of(0), Made::Refused { own: true });
     }
     rest(watch, now);
     now.set(4);

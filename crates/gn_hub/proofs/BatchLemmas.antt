@@ -1,24 +1,16 @@
 -- Receipts of a batch of packets.
-use Rattle.std.proofs.Common.{◌≡◌, ℕ, ◌+◌, ◌-◌, ◌<◌, ◌≤◌, Bool, true, false, ◌||◌, if◌then◌else◌, List, [], ◌∷◌, ◌++◌, length, map, Option, Some, Result, Ok, Err, IfOk, IfErr, refl, sym, subst, ap, ◌∙◌, arith, append_assoc, append-nil}
+use Rattle.std.proofs.Common.{◌≡◌, ℕ, ◌+◌, ◌-◌, ◌<◌, ◌≤◌, true, List, [], ◌∷◌, ◌++◌, map, Option, Some, Result, Ok, Err, IfOk, IfErr, refl, sym, subst, ap, ◌∙◌, arith, append_assoc, append-nil}
 use Rattle.std.proofs.lemmas.List.{length_push, map-append}
-use Rattle.gn_rules.specs.declared.event.Event.TheVariants.{Take}
 use Rattle.gn_rules.specs.declared.refusal.Refusal.{Refusal}
-use Rattle.gn_rules.specs.Fits.{AnswersFit, is_fit}
 use Rattle.gn_hub.specs.declared.next.Outgoing.{Outgoing}
 use Rattle.gn_hub.specs.declared.next.Outgoing.TheVariants.{Packet, Drained}
-use Rattle.gn_hub.specs.ActorState.{ActorState, receipt, with_receipt}
-use Rattle.gn_hub.specs.Calls.{HasStepped, answer_now}
-use Rattle.gn_hub.specs.HubState.{HubState, past_of}
+use Rattle.gn_hub.specs.ActorState.{ActorState, with_receipt}
+use Rattle.gn_hub.specs.HubState.{HubState}
 use Rattle.gn_hub.specs.Receipts.{HasTaken, HasTakenMore, HasTakenSome, TakenAt, is_stop, taken_receipt}
 use Rattle.gn_hub.specs.Waking.{LeavesWaiting}
 use Rattle.gn_hub.specs.declared.wakes.Wakes.{Wakes}
-use Rattle.gn_hub.specs.declared.wakes.Wakes.TheVariants.{Nobody, Everybody}
-use Rattle.gn_hub.proofs.StepLemmas.{taken_reply}
-use Rattle.gn_hub.proofs.WakingLemmas.{all_woken}
-
--- an actor with receipts of these packets more
-with_taken : {A : Type 0} → ActorState A → ℕ → List TakenAt → ActorState A
-with_taken me c taken = record me { receipts = me.receipts ++ map (taken_receipt c) taken }
+use Rattle.gn_hub.specs.declared.wakes.Wakes.TheVariants.{Nobody}
+use Rattle.gn_hub.proofs.KeptLemmas.{when_ok}
 
 pub none_more : {A : Type 0} (most c : ℕ) (me us : ActorState A) → us ≡ me → HasTakenMore most c me us
 none_more {A} most c me us same =
@@ -51,17 +43,14 @@ then_more {A} (Ok next) n most c me mid us same few first more =
 then_more (Err refusal) n most c me mid us same few first more = tt
 
 -- what a call did that was answered, where a thread has waited
-at_ok : {X E : Type 0} (answer : Result X E) (x : X) (P : X → Type 0) → answer ≡ Ok x → IfOk answer P → P x
-at_ok answer x P is did = subst (λ w. IfOk w P) is did
-
 pub drained_since : {A : Type 0} (Did : ActorState A → ActorState A → Type 0) (answer : Result (Option Outgoing) Refusal) (at : Option Outgoing) (next : Outgoing) (me mid us : ActorState A) → answer ≡ Ok at → at ≡ Some next
     → mid ≡ me → IfOk answer (λ next. next ≡ Some Drained → Did mid us) → next ≡ Drained → Did me us
-drained_since Did answer at next me mid us is some same did end = subst (λ w. Did w us) same (at_ok answer at (λ next. next ≡ Some Drained → Did mid us) is did (some ∙ ap Some end))
+drained_since Did answer at next me mid us is some same did end = subst (λ w. Did w us) same (when_ok answer at (λ next. next ≡ Some Drained → Did mid us) is did (some ∙ ap Some end))
 
 pub taken_since : {A : Type 0} (answer : Result (Option Outgoing) Refusal) (at : Option Outgoing) (next : Outgoing) (most c : ℕ) (me mid us : ActorState A) → answer ≡ Ok at → at ≡ Some next
     → mid ≡ me → IfOk answer (λ next. next ≡ Some Packet → HasTakenSome most c mid us) → next ≡ Packet → HasTakenSome most c me us
 taken_since answer at next most c me mid us is some same did packet =
-    subst (λ w. HasTakenSome most c w us) same (at_ok answer at (λ next. next ≡ Some Packet → HasTakenSome most c mid us) is did (some ∙ ap Some packet))
+    subst (λ w. HasTakenSome most c w us) same (when_ok answer at (λ next. next ≡ Some Packet → HasTakenSome most c mid us) is did (some ∙ ap Some packet))
 
 pub refused_since : {A : Type 0} (answer : Result (Option Outgoing) Refusal) (refusal : Refusal) (me mid us : ActorState A) → answer ≡ Err refusal
     → mid ≡ me → IfErr answer (λ refusal. (is_stop refusal ≡ true) × (us ≡ mid)) → (is_stop refusal ≡ true) × (us ≡ me)
@@ -71,31 +60,9 @@ refused_since answer refusal me mid us is same did =
 
 pub same_since : {A : Type 0} (answer : Result (Option Outgoing) Refusal) (at found : Option Outgoing) (me mid us : ActorState A) → answer ≡ Ok at → at ≡ found
     → mid ≡ me → IfOk answer (λ next. next ≡ found → us ≡ mid) → us ≡ me
-same_since answer at found me mid us is there same did = at_ok answer at (λ next. next ≡ found → us ≡ mid) is did there ∙ same
-
--- a Take that stepped took a packet
-pub was_taken : {A : Type 0} (c : ℕ) (before after : HubState A) (me us : ActorState A) → AnswersFit A → HasStepped (answer_now before (Take c)) (Take c) before me after us → HasTaken c me us
-was_taken c before after me us fit (reply, is, made, got) =
-    let (packet, same) = taken_reply c reply (subst (λ r. is_fit (Take c) r ≡ true) is (fit before.settings (past_of before) (Take c))) in
-    (length before.steps, packet, got ∙ ap (λ r. with_receipt me (receipt (length before.steps) (Take c) r)) same)
+same_since answer at found me mid us is there same did = when_ok answer at (λ next. next ≡ found → us ≡ mid) is did there ∙ same
 
 -- two calls one after the other, of which the second wakes nobody
 pub waiting_still : {A : Type 0} (wakes : Wakes) (before mid after : HubState A) → LeavesWaiting wakes [] before mid → LeavesWaiting Nobody [] mid after → LeavesWaiting wakes [] before after
 waiting_still wakes before mid after first second =
     record { at_door = λ none link h. second.at_door refl link (first.at_door none link h); for_next = λ c none h. second.for_next c refl (first.for_next c none h) }
-
-neither : (a b : Bool) → (a || b) ≡ false → (a ≡ false) × (b ≡ false)
-neither true b e = absurd (cc)
-neither false b e = (refl, e)
-
-pub both_quiet : {A : Type 0} (before mid after : HubState A) (a b : Bool) → (a ≡ false → LeavesWaiting Nobody [] before mid) → (b ≡ false → LeavesWaiting Nobody [] mid after)
-    → (a || b) ≡ false → LeavesWaiting Nobody [] before after
-both_quiet before mid after a b first second none =
-    let (p, q) = neither a b none in
-    waiting_still Nobody before mid after (first p) (second q)
-
--- a batch: everybody is woken where a further packet may have closed the run
-pub batch_leaves : {A : Type 0} (wakes : Wakes) (closes : Bool) (before mid after : HubState A) → LeavesWaiting wakes [] before mid → (closes ≡ false → LeavesWaiting Nobody [] mid after)
-    → LeavesWaiting (if closes then Everybody else wakes) [] before after
-batch_leaves wakes true before mid after first second = all_woken [] before after
-batch_leaves wakes false before mid after first second = waiting_still wakes before mid after first (second refl)

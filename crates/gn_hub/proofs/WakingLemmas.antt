@@ -2,10 +2,10 @@
 use Rattle.std.proofs.Common.{◌≡◌, ◌==◌, ℕ, zero, suc, Bool, true, false, ◌&&◌, ◌||◌, cond, if◌then◌else◌, not, List, [], ◌∷◌, ◌++◌, length, drop, filter, map, reverse, set, Result, Ok, refl, sym, subst, ap, ◌∙◌, arith}
 use Rattle.std.specs.List.{slice_get}
 use Rattle.std.proofs.lemmas.Bool.Decides.{nat_tests}
-use Rattle.std.proofs.lemmas.List.{reverse-append}
+use Rattle.std.proofs.lemmas.List.{nil_from_length, reverse-append}
 use Rattle.gn_wire.specs.Packet.{Packet}
 use Rattle.gn_rules.specs.declared.event.Event.{Event}
-use Rattle.gn_rules.specs.declared.event.Event.TheVariants.{Connect, Close, Admit, Route, Take, Originate}
+use Rattle.gn_rules.specs.declared.event.Event.TheVariants.{Connect, Close, Take}
 use Rattle.gn_rules.specs.declared.receipt.Step.{Step}
 use Rattle.gn_rules.specs.declared.refusal.Refusal.{Refusal}
 use Rattle.gn_rules.specs.declared.reply.Reply.{Reply}
@@ -53,16 +53,12 @@ alive false f e = absurd (cc)
 is_zero : (n : ℕ) → (n == 0) ≡ true → n ≡ 0
 is_zero n e = grind (arith, nat_tests)
 
-no_items : {X : Type 0} (xs : List X) → length xs ≡ 0 → xs ≡ []
-no_items [] e = refl
-no_items (x ∷ xs) e = absurd (omega arith)
-
 -- a connection that lives and has nothing waiting does so after a step that neither closes it nor queues a packet to it
 step_later : {A : Type 0} (past : List (Step A)) (step : Step A) (c : ℕ) → is_close c step.event ≡ false → is_queued_to c (sends_of step.reply) ≡ false
     → live past c ≡ true → (waiting past c == 0) ≡ true → (live (step ∷ past) c ≡ true) × ((waiting (step ∷ past) c == 0) ≡ true)
 step_later past step c other no_queue lives none =
     let still : live (step ∷ past) c ≡ true = rw (other, lives) (or_true (is_at c (connected_of step.reply))) in
-    let empty : out past c ≡ [] = no_items (out past c) (is_zero (length (out past c)) (sym (ap (λ b. cond b (length (out past c)) 0 == 0) lives) ∙ none)) in
+    let empty : out past c ≡ [] = nil_from_length (out past c) (is_zero (length (out past c)) (sym (ap (λ b. cond b (length (out past c)) 0 == 0) lives) ∙ none)) in
     let after : out (step ∷ past) c ≡ [] = rw (empty, queued_none c (sends_of step.reply) no_queue) (taken_none (is_take c step.event)) in
     (still, rw (still, after) refl)
   where
@@ -111,14 +107,7 @@ step_leaves {A} h after step wakes all sends made same_run same_links others is 
 connect_sends : {A : Type 0} (reply : Reply A) → replies Connect reply ≡ true → sends_of reply ≡ []
 connect_sends (kind.Connected d) fits = refl
 connect_sends kind.TooMany fits = refl
-connect_sends (kind.Closed n) fits = absurd (cc)
-connect_sends (kind.Admitted t) fits = absurd (cc)
-connect_sends kind.Busy fits = absurd (cc)
-connect_sends kind.Crowded fits = absurd (cc)
-connect_sends (kind.Routed sends local) fits = absurd (cc)
-connect_sends (kind.Dropped reason) fits = absurd (cc)
-connect_sends (kind.Taken packet) fits = absurd (cc)
-connect_sends (kind.Sent sends) fits = absurd (cc)
+connect_sends reply fits = absurd (cc)
 
 close_sends : {A : Type 0} (c : ℕ) (reply : Reply A) → replies (Close c) reply ≡ true → sends_of reply ≡ []
 close_sends c reply fits = ap sends_of (closed_reply c reply fits).1
@@ -132,12 +121,8 @@ none_queued c sends none = ap (λ w. is_queued_to c w) none
 -- whom a step doesn't wake it doesn't concern
 others_of : {A : Type 0} (event : Event A) (reply : Reply A) → replies event reply ≡ true
     → (c : ℕ) → is_woken (concerned event) (sends_of reply) c ≡ false → (is_close c event ≡ false) × (is_queued_to c (sends_of reply) ≡ false)
-others_of Connect reply fits c none = (refl, none)
 others_of (Close d) reply fits c none = (none, none_queued c (sends_of reply) (close_sends d reply fits))
-others_of (Admit d packet) reply fits c none = (refl, none)
-others_of (Route t) reply fits c none = (refl, none)
-others_of (Take d) reply fits c none = (refl, none)
-others_of (Originate packet) reply fits c none = (refl, none)
+others_of event reply fits c none = (refl, none)
 
 fitting : {A : Type 0} (event : Event A) (answer : Result (Reply A) Refusal) (reply : Reply A) → is_fit event answer ≡ true → answer ≡ Ok reply → replies event reply ≡ true
 fitting event answer reply fit is = subst (λ a. is_fit event a ≡ true) is fit

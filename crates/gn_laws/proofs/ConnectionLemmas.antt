@@ -6,8 +6,6 @@ use Rattle.std.proofs.lemmas.Grind.{common_steps}
 use Rattle.std.proofs.lemmas.List.{append-nil}
 use Rattle.std.proofs.lemmas.List.Folds.{list_any-append}
 use Rattle.std.proofs.lemmas.Map.Views.{exact_unsigned_eq}
-use Rattle.gn_wire.specs.declared.kind.Kind.{Kind}
-use Rattle.gn_wire.specs.declared.kind.Kind.TheVariants.{Ping, Pong, Push, Query, QueryHit, Unknown}
 use Rattle.gn_wire.specs.Packet.{forward_of, is_expired, Packet}
 use Rattle.gn_wire.specs.Keys.{is_same_id, key_of}
 use Rattle.gn_payload.specs.declared.checked.Verdict.{Verdict}
@@ -20,12 +18,15 @@ use Rattle.gn_rules.specs.declared.event.Event.TheVariants.{Connect, Close, Admi
 use Rattle.gn_rules.specs.declared.receipt.Step.{Step}
 use Rattle.gn_rules.specs.declared.reply.DropReason.TheVariants as reason
 use Rattle.gn_rules.specs.declared.reply.Reply.{Reply}
+use Rattle.gn_rules.specs.declared.routing.Routing.{Routing}
+use Rattle.gn_rules.specs.declared.routing.Routing.TheVariants.{Floods, Back, Pushed, Unnamed}
 use Rattle.gn_rules.specs.declared.sends.Sending.{Sending}
 use Rattle.gn_rules.specs.Answer.{answer, decision_reply, IsLegal}
-use Rattle.gn_rules.specs.Decision.{Decision, Drop, Local, Flood, Forward, checks, decide, decide_checked, decide_reply, decide_sound}
+use Rattle.gn_rules.specs.Decision.{Decision, Drop, Local, Flood, Forward, checks, decide, decide_checked, decide_reply, decide_routed}
 use Rattle.gn_rules.specs.Flight.{Admission}
 use Rattle.gn_rules.specs.History.{connected_of, is_at, is_close, is_take, sends_of, connections, live}
 use Rattle.gn_rules.specs.Output.{queued, queued_to, takes}
+use Rattle.gn_rules.specs.Routings.{routing_of}
 use Rattle.gn_rules.specs.Sending.{fanout, flood_sends, is_ping, own_pong, send}
 use Rattle.gn_rules.specs.Servents.{servent_route}
 use Rattle.gn_rules.specs.SeenEntries.{is_remembered, source}
@@ -239,24 +240,19 @@ push_aims : {A : Type 0} (s : Config) (past : List (Step A)) (a : Admission) (fo
 push_aims s past a None = tt
 push_aims s past a (Some r) = checks_aim s past a r
 
-request_aims : {A : Type 0} (s : Config) (past : List (Step A)) (a : Admission) → AimsLive past (decide_sound s past a Ping)
-request_aims s past a = aims_either past (is_remembered s past (key_of a.packet)) (Drop reason.Duplicate) Flood tt tt
-
-sound_aims : {A : Type 0} (s : Config) (past : List (Step A)) (a : Admission) (kind : Kind) → AimsLive past (decide_sound s past a kind)
-sound_aims s past a Ping = request_aims s past a
-sound_aims s past a Query = request_aims s past a
-sound_aims s past a Pong = reply_aims s past a (source s past (record { kind = Ping; id = a.packet.id }))
-sound_aims s past a QueryHit = reply_aims s past a (source s past (record { kind = Query; id = a.packet.id }))
-sound_aims s past a Push =
+routed_aims : {A : Type 0} (s : Config) (past : List (Step A)) (a : Admission) (routing : Routing) → AimsLive past (decide_routed s past a routing)
+routed_aims s past a Floods = aims_either past (is_remembered s past (key_of a.packet)) (Drop reason.Duplicate) Flood tt tt
+routed_aims s past a (Back kind) = reply_aims s past a (source s past (record { kind = kind; id = a.packet.id }))
+routed_aims s past a Pushed =
     let to = push_servent a.packet.payload in
     aims_either past (is_remembered s past (key_of a.packet)) (Drop reason.Duplicate) (cond (is_same_id to s.own.servent) Local (option_map_or (checks s past a) (servent_route s past to) (Drop reason.NoRoute))) tt
     (aims_either past (is_same_id to s.own.servent) Local (option_map_or (checks s past a) (servent_route s past to) (Drop reason.NoRoute)) tt (push_aims s past a (servent_route s past to)))
-sound_aims s past a (Unknown code) = tt
+routed_aims s past a Unnamed = tt
 
 checked_aims : {A : Type 0} (s : Config) (past : List (Step A)) (a : Admission) (verdict : Verdict) → AimsLive past (decide_checked s past a verdict)
 checked_aims s past a UnknownKind = tt
 checked_aims s past a Malformed = tt
-checked_aims s past a Sound = sound_aims s past a a.packet.kind
+checked_aims s past a Sound = routed_aims s past a (routing_of a.packet.kind)
 
 decision_none : {A : Type 0} (s : Config) (past : List (Step A)) (a : Admission) (c : ℕ) → live past c ≡ false → (decision : Decision) → AimsLive past decision → queued_to c (sends_of (decision_reply s past a decision)) ≡ []
 decision_none s past a c dead (Drop why) aims = refl

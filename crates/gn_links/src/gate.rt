@@ -12,10 +12,8 @@ pub enum Made {
     TooMany,
     /// A descriptor of the link was admitted, with this ticket.
     Admitted(u32),
-    /// A descriptor of the link was refused at the threshold of all connections.
-    Busy,
-    /// A descriptor of the link was refused at the threshold of its own connection.
-    Crowded,
+    /// A descriptor of the link was refused at a threshold, that of its own connection or that of all.
+    Refused { own: bool },
     /// A descriptor of the link was routed by the link's reader.
     Routed,
     /// A packet was taken to be written to the link.

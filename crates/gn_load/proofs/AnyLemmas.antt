@@ -8,7 +8,7 @@ use Rattle.gn_rules.specs.Limits.{IsCrew}
 use Rattle.gn_rules.specs.declared.config.Config.{Config}
 use Rattle.gn_rules.specs.declared.receipt.Step.{Step}
 use Rattle.gn_text.specs.Header.{header_text}
-use Rattle.gn_text.specs.declared.title.Text.TheVariants.{History}
+use Rattle.gn_numbers.specs.declared.titles.Text.TheVariants.{History}
 use Rattle.gn_capture.specs.Histories.{history_text}
 use Rattle.gn_io.specs.Parts.{AppendsPart}
 use Rattle.gn_io.specs.Streams.{SinkState}

@@ -1,12 +1,15 @@
 -- A capture makes at most 256 links.
-use Rattle.std.proofs.Common.{◌≡◌, ℕ, zero, suc, ◌+◌, ◌≤◌, ◌==◌, ◌&&◌, Bool, true, false, if◌then◌else◌, List, [], ◌∷◌, length, refl, subst, arith, codes, Result, Ok, Err, IfOk, nat_le, length-append}
+use Rattle.std.proofs.Common.{◌≡◌, ℕ, zero, suc, ◌+◌, ◌≤◌, ◌==◌, ◌&&◌, Bool, true, false, if◌then◌else◌, List, [], ◌∷◌, length, refl, subst, arith, Result, Ok, Err, IfOk, nat_le, length-append}
 use Rattle.std.proofs.lemmas.List.{length-set}
 use Rattle.gn_links.specs.Memory.{Memory}
 use Rattle.gn_text.specs.Bytes.{bytes_parsed}
-use Rattle.gn_text.specs.Lines.{fields_of, is_word}
+use Rattle.gn_text.specs.Lines.{fields_of}
+use Rattle.gn_numbers.specs.Names.{line_word_named}
 use Rattle.gn_numbers.specs.Numbers.{number_of}
-use Rattle.gn_text.specs.declared.fault.Cause.{Cause}
-use Rattle.gn_text.specs.declared.fault.Cause.TheVariants as cause
+use Rattle.gn_numbers.specs.declared.causes.Cause.{Cause}
+use Rattle.gn_numbers.specs.declared.causes.Cause.TheVariants as cause
+use Rattle.gn_numbers.specs.declared.words.LineWord.{LineWord}
+use Rattle.gn_numbers.specs.declared.words.LineWord.TheVariants as word
 use Rattle.gn_text.specs.declared.fault.CaptureFault.{CaptureFault}
 use Rattle.gn_text.specs.Faults.{◌>>=◌}
 use Rattle.gn_text.specs.Parsed.{parsed_of}
@@ -67,20 +70,23 @@ either : (b : Bool) {X : Type 0} (P : X → Type 0) (x y : X) → P x → P y �
 either true P x y p q = p
 either false P x y p q = q
 
+-- what the fields behind each word say
+said_few : (A : Type 0) (links : ℕ) (fields : List (List ℕ)) → links ≤ 256 → (said : LineWord) → IfOk (fields_say {A = A} links fields said) (λ l. LeavesFew links l)
+said_few A links fields few word.Join = made_few Join links fields refl few
+said_few A links fields few word.Open = made_few Greeted links fields refl few
+said_few A links fields few word.Data = piece_few A links fields few
+said_few A links fields few word.Route = joined (number_alone fields) _ (λ (l : Line A). LeavesFew links l) (λ x. few)
+said_few A links fields few word.Take = joined (number_alone fields) _ (λ (l : Line A). LeavesFew links l) (λ x. few)
+said_few A links fields few word.Close = joined (number_alone fields) _ (λ (l : Line A). LeavesFew links l) (λ x. few)
+said_few A links fields few word.Ping = joined (ping_of fields) _ (λ (l : Line A). LeavesFew links l) (λ x. few)
+said_few A links fields few word.Query = joined (query_of fields) _ (λ (l : Line A). LeavesFew links l) (λ x. few)
+said_few A links fields few word.Stats = alone_few A links fields few
+
 -- each line
 line_few : (A : Type 0) (links : ℕ) (fields : List (List ℕ)) → links ≤ 256 → IfOk (line_of {A = A} links fields) (λ l. LeavesFew links l)
 line_few A links [] few = _
 line_few A links (first ∷ fields) few =
-    let Few = λ (l : Line A). LeavesFew links l in
-    either (is_word first (codes "join")) (λ word. IfOk (known word >>= fields_say {A = A} links fields) Few) _ _ (made_few Join links fields refl few)
-    (either (is_word first (codes "open")) (λ word. IfOk (known word >>= fields_say {A = A} links fields) Few) _ _ (made_few Greeted links fields refl few)
-    (either (is_word first (codes "data")) (λ word. IfOk (known word >>= fields_say {A = A} links fields) Few) _ _ (piece_few A links fields few)
-    (either (is_word first (codes "route")) (λ word. IfOk (known word >>= fields_say {A = A} links fields) Few) _ _ (joined (number_alone fields) _ Few (λ x. few))
-    (either (is_word first (codes "take")) (λ word. IfOk (known word >>= fields_say {A = A} links fields) Few) _ _ (joined (number_alone fields) _ Few (λ x. few))
-    (either (is_word first (codes "close")) (λ word. IfOk (known word >>= fields_say {A = A} links fields) Few) _ _ (joined (number_alone fields) _ Few (λ x. few))
-    (either (is_word first (codes "ping")) (λ word. IfOk (known word >>= fields_say {A = A} links fields) Few) _ _ (joined (ping_of fields) _ Few (λ x. few))
-    (either (is_word first (codes "query")) (λ word. IfOk (known word >>= fields_say {A = A} links fields) Few) _ _ (joined (query_of fields) _ Few (λ x. few))
-    (either (is_word first (codes "stats")) (λ word. IfOk (known word >>= fields_say {A = A} links fields) Few) _ _ (alone_few A links fields few) _))))))))
+    joined (known (line_word_named first)) (fields_say {A = A} links fields) (λ (l : Line A). LeavesFew links l) (said_few A links fields few)
 
 -- and in a version with `route all` or without it
 in_few : (A : Type 0) (all : Bool) (links : ℕ) (fields : List (List ℕ)) → links ≤ 256 → IfOk (line_in {A = A} all links fields) (λ l. LeavesFew links l)

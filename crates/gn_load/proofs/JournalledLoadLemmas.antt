@@ -14,7 +14,7 @@ use Rattle.gn_links.specs.Memory.{Memory, MemoryReading, MemoryWriting, half_rea
 use Rattle.gn_text.specs.Header.{header_text}
 use Rattle.gn_text.specs.Settings.{settings_of}
 use Rattle.gn_text.specs.declared.fault.CaptureFault.{CaptureFault}
-use Rattle.gn_text.specs.declared.title.Text.TheVariants.{History}
+use Rattle.gn_numbers.specs.declared.titles.Text.TheVariants.{History}
 use Rattle.gn_capture.specs.Histories.{history_text}
 use Rattle.gn_io.specs.Input.{input_limit}
 use Rattle.gn_io.specs.Parts.{AppendsPart}

@@ -5,7 +5,7 @@ use Rattle.gn_shake.specs.declared.role.Role.{Role}
 use Rattle.gn_shake.specs.declared.role.Role.TheVariants.{Accepting, Plain}
 use Rattle.gn_links.specs.Memory.{Memory}
 use Rattle.gn_text.specs.declared.fault.CaptureFault.{CaptureFault}
-use Rattle.gn_text.specs.declared.fault.Cause.TheVariants as cause
+use Rattle.gn_numbers.specs.declared.causes.Cause.TheVariants as cause
 use Rattle.gn_text.specs.Faults.{fault_at, ◌>>=◌}
 use Rattle.gn_capture.specs.declared.line.Line.{Line}
 use Rattle.gn_capture.specs.declared.line.Line.TheVariants.{Join, Greeted, Piece}

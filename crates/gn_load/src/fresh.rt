@@ -4,7 +4,7 @@ ghost use Rattle.std.specs.Prelude.{◌≡◌, [], Some, IfOk};
 ghost use Rattle.rtrb.specs.Ring.{received};
 ghost use Rattle.gn_journal.specs.Rings.{name_of};
 ghost use Rattle.gn_text.specs.Header.{header_text};
-ghost use Rattle.gn_text.specs.declared.title.Text.TheVariants.{History};
+ghost use Rattle.gn_numbers.specs.declared.titles.Text.TheVariants.{History};
 ghost use Rattle.gn_load.specs.Journalled.{IsFresh};
 
 use gn_io::Block;

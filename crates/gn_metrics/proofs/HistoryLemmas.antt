@@ -1,5 +1,5 @@
 -- What is counted of the text of a history: the steps with each reply or reason to drop.
-use Rattle.std.proofs.Common.{◌≡◌, ◌<◌, ◌+◌, ◌-◌, ◌/◌, ◌%◌, ◌^◌, ℕ, zero, suc, Bool, true, false, List, [], ◌∷◌, ◌++◌, get_or, refl, ap, ◌∙◌, arith, append_assoc}
+use Rattle.std.proofs.Common.{◌≡◌, ◌<◌, ◌+◌, ◌-◌, ◌/◌, ◌%◌, ◌^◌, ℕ, zero, suc, Bool, true, false, List, [], ◌∷◌, ◌++◌, get_or, map, count_by, refl, sym, ap, ◌∙◌, arith, append_assoc}
 use Rattle.std.specs.Prelude.{◌==◌, ◌&&◌, codes, decimal, if◌then◌else◌, min, not}
 use Rattle.std.specs.Fmt.{digit_glyph, digits, digits_onto}
 use Rattle.std.specs.List.{flat_map, list_all}
@@ -19,19 +19,20 @@ use Rattle.gn_rules.specs.declared.event.Event.{Event as Happening}
 use Rattle.gn_rules.specs.declared.limits.Numbers.{Numbers}
 use Rattle.gn_rules.specs.declared.receipt.Step.{Step}
 use Rattle.gn_rules.specs.declared.reply.DropReason.{DropReason}
-use Rattle.gn_rules.specs.declared.reply.DropReason.TheVariants as reason
+use Rattle.gn_rules.specs.declared.reply.DropReason.TheVariants.{UnknownKind}
 use Rattle.gn_rules.specs.declared.reply.Reply.{Reply}
 use Rattle.gn_rules.specs.declared.reply.Reply.TheVariants as reply
 use Rattle.gn_rules.specs.declared.sends.Sending.{Sending}
 use Rattle.gn_rules.specs.declared.statistics.Counter.{Counter}
-use Rattle.gn_rules.specs.declared.statistics.Counter.TheVariants as counter
-use Rattle.gn_rules.specs.declared.statistics.Stats.{Stats}
-use Rattle.gn_rules.specs.Statistics.{counter_of, counter_place, drop_counter, raised, stats_of}
+use Rattle.gn_rules.specs.declared.statistics.Counter.TheVariants.{Connected}
+use Rattle.gn_rules.specs.Statistics.{counter_of, counter_place, counters, drop_counter, is_same_counter, raised, stats_of}
+use Rattle.gn_rules.proofs.CounterLemmas.{stats_more}
+use Rattle.gn_numbers.specs.Names.{place_name, reason_name}
 use Rattle.gn_text.specs.Addresses.{ip_text}
 use Rattle.gn_text.specs.Header.{header_text, title_text}
 use Rattle.gn_text.specs.Settings.{config_line, config_text, field_text, own_line, own_text, settings_text, six_text}
-use Rattle.gn_text.specs.Steps.{event_text, mark_text, packet_text, place_text, reason_text, reply_text, sending_text, sends_text, step_text}
-use Rattle.gn_text.specs.declared.title.Text.TheVariants.{History}
+use Rattle.gn_text.specs.Steps.{event_text, mark_text, packet_text, reply_text, sending_text, sends_text, step_text}
+use Rattle.gn_numbers.specs.declared.titles.Text.TheVariants.{History}
 use Rattle.gn_metrics.specs.Counting.{Standing, after_bytes, at_first, listed}
 use Rattle.gn_metrics.specs.Sums.{counted}
 use Rattle.gn_metrics.specs.declared.tally.Place.{Place}
@@ -144,7 +145,7 @@ mark_quiet : (queued : Bool) → IsQuiet (mark_text queued)
 mark_quiet true = refl
 mark_quiet false = refl
 
-place_quiet : (local : Bool) → IsQuiet (place_text local)
+place_quiet : (local : Bool) → IsQuiet (place_name local)
 place_quiet true = refl
 place_quiet false = refl
 
@@ -168,15 +169,10 @@ event_text_quiet (event.Route t) = joined (codes "route ") (decimal t) refl (dec
 event_text_quiet (event.Take c) = joined (codes "take ") (decimal c) refl (decimal_quiet c)
 event_text_quiet (event.Originate d) = joined (codes "originate ") (packet_text d) refl (hex_quiet (bytes_of d))
 
-dropped_read : (c : List ℕ) (why : DropReason) → after_bytes (stands Word c) (codes "dropped " ++ reason_text why ++ codes "\n")
+dropped_read : (c : List ℕ) (why : DropReason) → after_bytes (stands Word c) (codes "dropped " ++ reason_name why ++ codes "\n")
     ≡ stands Start (counted (counter_place (drop_counter why)) c)
-dropped_read c reason.UnknownKind = refl
-dropped_read c reason.Malformed = refl
-dropped_read c reason.Duplicate = refl
-dropped_read c reason.NoRoute = refl
-dropped_read c reason.RouteGone = refl
-dropped_read c reason.BackToSender = refl
-dropped_read c reason.Expired = refl
+dropped_read c UnknownKind = refl
+dropped_read c why = refl
 
 sent_read : {A : Type 0} (c : List ℕ) (sends : List (Sending A)) → after_bytes (stands Word c) (codes "sent" ++ sends_text sends ++ codes "\n")
     ≡ stands Start (counted 15 c)
@@ -192,18 +188,15 @@ sent_read c (x ∷ sends) =
 reply_read : {A : Type 0} (c : List ℕ) (reply : Reply A) → after_bytes (stands Word c) (reply_text reply ++ codes "\n")
     ≡ stands Start (counted (counter_place (counter_of reply)) c)
 reply_read c (reply.Connected n) = counts_word c (counted 0 c) (codes "connected ") (decimal n) refl (decimal_quiet n)
-reply_read c reply.TooMany = refl
 reply_read c (reply.Closed n) = counts_word c (counted 2 c) (codes "closed ") (decimal n) refl (decimal_quiet n)
 reply_read c (reply.Admitted n) = counts_word c (counted 3 c) (codes "admitted ") (decimal n) refl (decimal_quiet n)
-reply_read c reply.Busy = refl
-reply_read c reply.Crowded = refl
 reply_read c (reply.Routed sends local) =
-    ap (λ (text : List ℕ). after_bytes (stands Word c) (text ++ codes "\n")) (append_assoc (codes "routed ") (place_text local) (sends_text sends))
-    ∙ counts_word c (counted 6 c) (codes "routed ") (place_text local ++ sends_text sends) refl
-    (joined (place_text local) (sends_text sends) (place_quiet local) (sends_quiet sends))
+    counts_word c (counted 6 c) (codes "routed ") (place_name local ++ sends_text sends) refl
+    (joined (place_name local) (sends_text sends) (place_quiet local) (sends_quiet sends))
 reply_read c (reply.Dropped why) = dropped_read c why
 reply_read c (reply.Taken packet) = counts_word c (counted 14 c) (codes "taken ") (packet_text packet) refl (hex_quiet (bytes_of packet))
 reply_read c (reply.Sent sends) = sent_read c sends
+reply_read c r = refl
 
 -- a step is counted under its reply
 step_read : {A : Type 0} (c : List ℕ) (step : Step A) → after_bytes (stands Start c) (step_text step)
@@ -223,23 +216,18 @@ step_read c step =
 capped : (n : ℕ) → min (min n (2 ^ 32 - 1) + 1) (2 ^ 32 - 1) ≡ min (n + 1) (2 ^ 32 - 1)
 capped n = omega arith
 
-listed_more : (k : Counter) (n : Stats) → counted (counter_place k) (listed n) ≡ listed (raised k n)
-listed_more counter.Connected n = rw (capped n.connected) refl
-listed_more counter.TooMany n = rw (capped n.toomany) refl
-listed_more counter.Closed n = rw (capped n.closed) refl
-listed_more counter.Admitted n = rw (capped n.admitted) refl
-listed_more counter.Busy n = rw (capped n.busy) refl
-listed_more counter.Crowded n = rw (capped n.crowded) refl
-listed_more counter.Routed n = rw (capped n.routed) refl
-listed_more counter.UnknownKind n = rw (capped n.unknownkind) refl
-listed_more counter.Malformed n = rw (capped n.malformed) refl
-listed_more counter.Duplicate n = rw (capped n.duplicate) refl
-listed_more counter.NoRoute n = rw (capped n.noroute) refl
-listed_more counter.RouteGone n = rw (capped n.routegone) refl
-listed_more counter.BackToSender n = rw (capped n.backtosender) refl
-listed_more counter.Expired n = rw (capped n.expired) refl
-listed_more counter.Taken n = rw (capped n.taken) refl
-listed_more counter.Sent n = rw (capped n.sent) refl
+-- one more at a counter's place is one more of it, case by case
+counter_more : (k : Counter) (f : Counter → ℕ)
+    → counted (counter_place k) (listed (record { counts = map f counters })) ≡ listed (raised k (record { counts = map f counters }))
+counter_more Connected f = rw (capped (f Connected)) refl
+counter_more k f = rw (capped (f k)) refl
+
+-- one step more is one more of its counter
+step_more : {A : Type 0} (step : Step A) (earlier : List (Step A))
+    → counted (counter_place (counter_of step.reply)) (listed (stats_of earlier)) ≡ listed (stats_of (step ∷ earlier))
+step_more {A} step earlier =
+    let has : Counter → Step A → Bool = λ k past. is_same_counter (counter_of past.reply) k in
+    counter_more (counter_of step.reply) (λ k. count_by (has k) earlier) ∙ ap listed (sym (stats_more step earlier))
 
 -- steps are counted behind those that were
 steps_read : {A : Type 0} (earlier steps : List (Step A)) → after_bytes (stands Start (listed (stats_of earlier))) (flat_map step_text steps)
@@ -249,7 +237,7 @@ steps_read earlier (step ∷ steps) =
     let now = stands Start (listed (stats_of earlier)) in
     after_both now (step_text step) (flat_map step_text steps)
     ∙ ap (λ (s : Standing). after_bytes s (flat_map step_text steps))
-    (step_read (listed (stats_of earlier)) step ∙ ap (λ (c : List ℕ). stands Start c) (listed_more (counter_of step.reply) (stats_of earlier)))
+    (step_read (listed (stats_of earlier)) step ∙ ap (λ (c : List ℕ). stands Start c) (step_more step earlier))
     ∙ steps_read (step ∷ earlier) steps
 
 -- the lines of a header count nothing

@@ -1,5 +1,4 @@
 pub mod HistoryLemmas
-pub mod NameLemmas
 pub mod PageLemmas
 pub mod QuietLemmas
 pub mod TallyLemmas

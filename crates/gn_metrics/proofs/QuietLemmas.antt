@@ -4,8 +4,9 @@ use Rattle.std.specs.Prelude.{◌==◌, if◌then◌else◌}
 use Rattle.std.proofs.lemmas.Bool.Decides.{nat_tests}
 use Rattle.gn_comments.specs.Comments.{bare}
 use Rattle.gn_comments.specs.Comments.Place.{start, line, comment}
+use Rattle.gn_rules.specs.declared.statistics.Counter.{Counter}
+use Rattle.gn_numbers.specs.Names.{counter_named}
 use Rattle.gn_metrics.specs.Counting.{Standing, after_byte, after_bytes, at_first, longer, moved, with_found, word_ended}
-use Rattle.gn_metrics.specs.Names.{counter_names, place_of}
 use Rattle.gn_metrics.specs.declared.tally.Place.{Place}
 use Rattle.gn_metrics.specs.declared.tally.Place.TheVariants.{Start, Event, Word, Rest}
 
@@ -71,16 +72,16 @@ event_goes true false apart = refl
 event_goes false true apart = refl
 event_goes false false apart = refl
 
-found_goes : (found : Option ℕ) (word before : List ℕ) → is_start (with_found found (stands Word word before)).place ≡ false
+found_goes : (found : Option Counter) (word before : List ℕ) → is_start (with_found found (stands Word word before)).place ≡ false
 unfolding is_start
 found_goes None word before = refl
-found_goes (Some place) word before = refl
+found_goes (Some counter) word before = refl
 
 word_goes : (x y : Bool) (b : ℕ) (word before : List ℕ)
     → (let s = stands Word word before in is_start (if x then moved Start (word_ended s) else (if y then word_ended s else longer s b)).place ≡ x)
 unfolding is_start
 word_goes true y b word before = refl
-word_goes false true b word before = found_goes (place_of counter_names word) word before
+word_goes false true b word before = found_goes (counter_named word) word before
 word_goes false false b word before = refl
 
 rest_goes : (x : Bool) → is_start (if x then Start else Rest) ≡ x

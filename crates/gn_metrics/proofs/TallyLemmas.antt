@@ -1,12 +1,10 @@
 -- How a text is read that is counted.
-use Rattle.std.proofs.Common.{◌≡◌, ◌<◌, ◌≤◌, ◌+◌, ℕ, zero, suc, Bool, true, false, List, [], ◌∷◌, ◌++◌, get_or, length, take, drop, set, Option, None, Some, refl, sym, ap, ◌∙◌, arith}
-use Rattle.std.specs.Prelude.{◌==◌, ◌||◌, nat_lt, if◌then◌else◌, option_map, slice_range}
+use Rattle.std.proofs.Common.{◌≡◌, ◌<◌, ◌≤◌, ◌+◌, ℕ, zero, suc, Bool, true, false, List, [], ◌∷◌, ◌++◌, get_or, length, take, drop, set, None, Some, refl, sym, ap, ◌∙◌, arith}
+use Rattle.std.specs.Prelude.{◌==◌, ◌||◌, nat_lt, if◌then◌else◌, slice_range}
 use Rattle.std.proofs.lemmas.Bool.Decides.{nat_tests}
 use Rattle.std.proofs.lemmas.List.{drop-drop, get_or-take, length-drop, length-take-le, take-append-drop, take_all, take_more, take_more_set, take_rest}
 use Rattle.memchr.specs.Find.{IsFirstByte, is_byte, is_byte2}
-use Rattle.gn_text.specs.Lines.{is_word}
 use Rattle.gn_metrics.specs.Counting.{Standing, after_byte, after_bytes, behind_event, byte_at, moved, with_letter}
-use Rattle.gn_metrics.specs.Names.{place_of}
 use Rattle.gn_metrics.specs.declared.tally.Place.{Place}
 use Rattle.gn_metrics.specs.declared.tally.Place.TheVariants.{Start, Event, Word, Rest}
 
@@ -115,24 +113,3 @@ letter_none word n letter within many =
     let long : length (take n word) ≡ n = length-take-le n word within in
     let short : nat_lt (length (take n word)) 16 ≡ false = grind (arith, nat_tests) in
     sym (ap (λ (x : Bool). if x then take n word ++ letter ∷ [] else take n word) short)
-
--- the first name that is a word stands there
-pub place_found : (names : List (List ℕ)) (word : List ℕ) (i : ℕ) → i < length names → is_word (get_or names i []) word ≡ true
-    → ((k : ℕ) → k < i → is_word (get_or names k []) word ≡ false) → place_of names word ≡ Some i
-place_found [] word i below is before = absurd (omega arith)
-place_found (name ∷ names) word zero below is before =
-    ap (λ (x : Bool). if x then Some 0 else option_map (λ (place : ℕ). place + 1) (place_of names word)) is
-place_found (name ∷ names) word (suc i) below is before =
-    let next : i + 1 ≡ suc i = omega arith in
-    ap (λ (x : Bool). if x then Some 0 else option_map (λ (place : ℕ). place + 1) (place_of names word)) (before zero (omega arith))
-    ∙ ap (λ (found : Option ℕ). option_map (λ (place : ℕ). place + 1) found)
-    (place_found names word i (omega arith) is (λ k earlier. before (suc k) (omega arith)))
-    ∙ ap (λ (n : ℕ). Some n) next
-
--- no name is that word
-pub place_none : (names : List (List ℕ)) (word : List ℕ) → ((k : ℕ) → k < length names → is_word (get_or names k []) word ≡ false)
-    → place_of names word ≡ None
-place_none [] word none = refl
-place_none (name ∷ names) word none =
-    ap (λ (x : Bool). if x then Some 0 else option_map (λ (place : ℕ). place + 1) (place_of names word)) (none zero (omega arith))
-    ∙ ap (λ (found : Option ℕ). option_map (λ (place : ℕ). place + 1) found) (place_none names word (λ k below. none (suc k) (omega arith)))

@@ -1,9 +1,9 @@
 -- What is counted of a text as it goes by.
 use Rattle.std.specs.Prelude.{ℕ, ◌-◌, ◌^◌, ◌==◌, nat_lt, if◌then◌else◌, List, [], ◌∷◌, ◌++◌, length, map, min, replicate, take, Option, None, Some}
+use Rattle.gn_rules.specs.declared.statistics.Counter.{Counter}
 use Rattle.gn_rules.specs.declared.statistics.Stats.{Stats}
-use Rattle.gn_rules.specs.Statistics.{count_in}
-use Rattle.gn_text.specs.Statistics.{counters}
-use Rattle.gn_metrics.specs.Names.{counter_names, place_of}
+use Rattle.gn_rules.specs.Statistics.{count_in, counter_place, counters}
+use Rattle.gn_numbers.specs.Names.{counter_named}
 use Rattle.gn_metrics.specs.Sums.{counted}
 use Rattle.gn_metrics.specs.declared.tally.Place.{Place}
 use Rattle.gn_metrics.specs.declared.tally.Place.TheVariants.{Start, Event, Word, Rest}
@@ -27,14 +27,14 @@ at_first = record { place = Start; word = []; counts = replicate 16 0 }
 abbrev pub with_letter : List ℕ → ℕ → List ℕ
 with_letter word letter = if nat_lt (length word) 16 then word ++ letter ∷ [] else word
 
--- a word is at its end, and is the counter's name at this place: its line is counted; or it is none
-abbrev pub with_found : Option ℕ → Standing → Standing
+-- a word is at its end: where it is the name of a counter, its line is counted there
+abbrev pub with_found : Option Counter → Standing → Standing
 with_found None s = record { place = s.place; word = []; counts = s.counts }
-with_found (Some place) s = record { place = Rest; word = []; counts = counted place s.counts }
+with_found (Some counter) s = record { place = Rest; word = []; counts = counted (counter_place counter) s.counts }
 
 -- a word is at its end
 abbrev pub word_ended : Standing → Standing
-word_ended s = with_found (place_of counter_names s.word) s
+word_ended s = with_found (counter_named s.word) s
 
 -- somewhere else
 abbrev pub moved : Place → Standing → Standing

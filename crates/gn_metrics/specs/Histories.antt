@@ -8,7 +8,7 @@ use Rattle.gn_rules.specs.declared.receipt.Step.{Step}
 use Rattle.gn_rules.specs.Statistics.{stats_of}
 use Rattle.gn_text.specs.Header.{header_text}
 use Rattle.gn_text.specs.Steps.{step_text}
-use Rattle.gn_text.specs.declared.title.Text.TheVariants.{History}
+use Rattle.gn_numbers.specs.declared.titles.Text.TheVariants.{History}
 use Rattle.gn_metrics.specs.Counting.{after_bytes, at_first, listed}
 
 -- what is counted of the text of a history, whole lines of it, are the counters of its steps

@@ -2,7 +2,6 @@
 pub mod Counted
 pub mod Counting
 pub mod Histories
-pub mod Names
 pub mod Page
 pub mod Scraped
 pub mod Sums

@@ -1,8 +1,10 @@
 -- The page of the counts.
-use Rattle.std.specs.Prelude.{ℕ, List, [], ◌∷◌, ◌++◌, codes, decimal}
+use Rattle.std.specs.Prelude.{ℕ, List, ◌++◌, codes, decimal}
 use Rattle.std.specs.List.{flat_map}
-use Rattle.gn_metrics.specs.Counted.{connections_of, in_flight_of, steps_of}
-use Rattle.gn_metrics.specs.Names.{counter_names}
+use Rattle.gn_rules.specs.declared.statistics.Counter.{Counter}
+use Rattle.gn_rules.specs.Statistics.{counters}
+use Rattle.gn_numbers.specs.Names.{counter_name}
+use Rattle.gn_metrics.specs.Counted.{connections_of, count_at, in_flight_of, steps_of}
 use Rattle.gn_metrics.specs.declared.look.Look.{Look}
 use Rattle.gn_metrics.specs.declared.page.Row.{Row}
 
@@ -51,14 +53,12 @@ abbrev pub steps_help : List ℕ
 steps_help = codes "Steps of the history with this reply or reason to drop, as gn show --stats counts them."
 
 -- a counter's number, by its name
-abbrev pub count_text : List ℕ → ℕ → List ℕ
-count_text name count = number_text (name ++ codes "_total") counter_kind steps_help count
+unfoldable pub count_text : Look → Counter → List ℕ
+count_text look counter = number_text (counter_name counter ++ codes "_total") counter_kind steps_help (count_at look counter)
 
 -- those of some counters, in order
-abbrev pub counts_text : List (List ℕ) → List ℕ → List ℕ
-counts_text [] counts = []
-counts_text (name ∷ names) [] = []
-counts_text (name ∷ names) (count ∷ counts) = count_text name count ++ counts_text names counts
+abbrev pub counts_text : Look → List Counter → List ℕ
+counts_text look some = flat_map (count_text look) some
 
 -- what was written, made and met
 abbrev pub totals_text : Look → ℕ → List ℕ
@@ -82,5 +82,5 @@ gauges_text look connections in_flight =
 -- the page of what was counted at a look
 abbrev pub page_text : Look → List ℕ
 page_text look =
-    counts_text counter_names look.counts ++ totals_text look (steps_of look)
+    counts_text look counters ++ totals_text look (steps_of look)
     ++ gauges_text look (connections_of look) (in_flight_of look)

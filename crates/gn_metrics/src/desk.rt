@@ -1,7 +1,6 @@
 //! Where the counts of a run are asked for, while it goes on.
 
 use crate::meters::Meters;
-use crate::names::Names;
 use crate::patient::{LOOK, Patient};
 use crate::scrape::Scrape;
 use gn_links::LinkFault;
@@ -77,12 +76,8 @@ impl Desk {
     }
 
     /// Answers one caller after another until the run is over. Where nobody can be accepted it looks again after a while.
-    fn run<R: Wait + Clock>(&self, rt: &R, alloc: Global, names: &Names, meters: &Meters) {
-        let mut scrape = Scrape {
-            alloc,
-            names,
-            meters,
-        };
+    fn run<R: Wait + Clock>(&self, rt: &R, alloc: Global, meters: &Meters) {
+        let mut scrape = Scrape { alloc, meters };
         for _ in rt.forever() {
             let accepted = self.listener.accept();
             if self.is_over.load(Ordering::SeqCst) {
@@ -107,7 +102,6 @@ impl Desk {
         &self,
         rt: &R,
         alloc: Global,
-        names: &Names,
         meters: &Meters,
         body: F,
     ) -> T
@@ -120,7 +114,7 @@ impl Desk {
             |scope| -> T
                 requires { F.pre body }
                 ensures { F.post body result }
-            { self.within(rt, scope, alloc, names, meters, body) },
+            { self.within(rt, scope, alloc, meters, body) },
         )
     }
 
@@ -130,14 +124,13 @@ impl Desk {
         rt: &'s R,
         scope: &Scope<'s, X>,
         alloc: Global,
-        names: &'s Names,
         meters: &'s Meters,
         body: F,
     ) -> T
         requires { F.pre body }
         ensures { F.post body result }
     {
-        let started = scope.spawn(move || self.run(rt, alloc, names, meters));
+        let started = scope.spawn(move || self.run(rt, alloc, meters));
         if started.is_err() {
             self.close();
         }

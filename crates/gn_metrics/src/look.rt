@@ -37,7 +37,14 @@ fn sum_of(counts: &[u32]) -> u64
 }
 
 impl Look {
-    ghost use Rattle.gn_metrics.specs.Counted.{connections_of, in_flight_of, steps_of};
+    ghost use Rattle.gn_metrics.specs.Counted.{connections_of, count_at, in_flight_of, steps_of};
+
+    /// How many steps this counter counts.
+    pub(crate) fn count(&self, counter: Counter) -> u32
+        ensures { result ≡ count_at self.now counter }
+    {
+        self.counts[counter as usize]
+    }
 
     /// How many steps of the history were written.
     pub fn steps(&self) -> u64
@@ -50,8 +57,8 @@ impl Look {
     pub fn connections(&self) -> u64
         ensures { result ≡ connections_of self.now }
     {
-        let connected = self.counts[Counter::Connected as usize];
-        u64::from(connected.saturating_sub(self.counts[Counter::Closed as usize]))
+        let connected = self.count(Counter::Connected);
+        u64::from(connected.saturating_sub(self.count(Counter::Closed)))
     }
 
     /// How many descriptors are in flight by the history that was written.
@@ -60,6 +67,6 @@ impl Look {
     {
         // the counters of what becomes of a ticket stand side by side
         let routed = sum_of(&self.counts[Counter::Routed as usize..=Counter::Expired as usize]);
-        u64::from(self.counts[Counter::Admitted as usize]).saturating_sub(routed)
+        u64::from(self.count(Counter::Admitted)).saturating_sub(routed)
     }
 }

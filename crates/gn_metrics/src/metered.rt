@@ -3,45 +3,16 @@
 ghost use Rattle.std.specs.Prelude.{◌≡◌};
 
 use crate::meters::Meters;
-use crate::names::Names;
 use crate::tally::Tally;
 use gn_comments::{Lent, Naming};
 use gn_io::{IoFault, Sink};
 use std::marker::PhantomData;
 
-/// What counts a text.
-#[derive(Drop)]
-enum Counting<'n> {
-    /// Nothing does.
-    Nothing,
-    /// This tally.
-    By(Tally<'n>),
-}
-
-impl<'n> Counting<'n> {
-    /// By these names, where they are there.
-    fn new(names: Option<&'n Names>) -> Self {
-        match names {
-            Some(names) => Counting::By(Tally::new(names)),
-            None => Counting::Nothing,
-        }
-    }
-
-    /// These bytes go by next, which is said.
-    fn read(&mut self, piece: &[u8], meters: &Meters) {
-        if let Counting::By(tally) = self {
-            tally.read(piece);
-            tally.tell(meters);
-        }
-    }
-}
-
-/// Writes a text to the sink that `B` names, and counts what that took of it, where the names of the counters are there. It is seen as that
-/// sink.
+/// Writes a text to the sink that `B` names, and counts what that took of it. It is seen as that sink.
 #[derive(Drop)]
 pub struct Metered<'a, 'm, B: Naming, W: Sink> {
     sink: &'a mut W,
-    counting: Counting<'m>,
+    tally: Tally,
     meters: &'m Meters,
     of: PhantomData<B>,
     ghost here: { sink.ghost_name ≡ B.sink },
@@ -49,14 +20,14 @@ pub struct Metered<'a, 'm, B: Naming, W: Sink> {
 
 impl<'a, 'm, B: Naming, W: Sink> Metered<'a, 'm, B, W> {
     /// No text yet, over the sink that `B` names.
-    pub fn new(lent: Lent<'a, W>, names: Option<&'m Names>, meters: &'m Meters) -> Self
+    pub fn new(lent: Lent<'a, W>, meters: &'m Meters) -> Self
         requires here { lent.sink.ghost_name ≡ B.sink }
         ensures { result.sink.now ≡ lent.entry.sink.now }
     {
         let Lent { sink } = lent;
         Metered {
             sink,
-            counting: Counting::new(names),
+            tally: Tally::new(),
             meters,
             of: PhantomData,
         }
@@ -77,7 +48,7 @@ impl<'a, 'm, B: Naming, W: Sink> Sink for Metered<'a, 'm, B, W> {
 
     fn write(&mut self, piece: &[u8]) -> Result<usize, IoFault> {
         let taken = self.sink.write(piece)?;
-        self.counting.read(&piece[..taken], self.meters);
+        self.tally.follow(&piece[..taken], self.meters);
         Ok(taken)
     }
 }

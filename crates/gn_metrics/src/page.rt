@@ -1,11 +1,12 @@
 //! The page of the counts, as Prometheus reads it.
 
 ghost use Rattle.std.specs.Prelude.{◌≡◌, ◌++◌, codes, decimal, OnOk};
-ghost use Rattle.gn_metrics.specs.Names.{counter_names};
-ghost use Rattle.gn_metrics.specs.Page.{counter_kind, counts_text, full_name, gauge_kind, gauges_text, help_text, number_text, page_text, row_name, row_text, rows_text, sample_text, totals_text, type_text};
+ghost use Rattle.gn_rules.specs.Statistics.{counters};
+ghost use Rattle.gn_metrics.specs.Page.{count_text, counter_kind, counts_text, full_name, gauge_kind, gauges_text, help_text, number_text, page_text, row_name, row_text, rows_text, sample_text, totals_text, type_text};
 
-use crate::look::{COUNTERS, Look};
-use crate::names::Names;
+use crate::look::Look;
+use gn_numbers::counter_name;
+use gn_rules::Counter;
 use itoa::Buffer;
 use std::alloc::{AllocError, Allocator};
 
@@ -172,36 +173,43 @@ fn gauges(look: &Look, connections: u64, in_flight: u64) -> [Row<'static>; 4]
     ]
 }
 
-/// Appends the rows of the counters of steps, in their order. An `Err` is out of memory.
-fn push_counters<A: Allocator>(
-    out: &mut Vec<u8, A>,
-    names: &Names,
-    look: &Look,
-) -> Result<(), AllocError>
-    ensures { OnOk result (out.new.items ≡ out.old.items ++ counts_text counter_names look.now.counts) }
+/// The row of a counter of steps.
+fn count_row(look: &Look, counter: Counter) -> Row<'static>
+    ensures { row_text result ≡ count_text look.now counter }
 {
-    for place in 0..COUNTERS {
-        let row = Row {
-            name: names.get(place),
-            ending: b"_total",
-            kind: COUNTER,
-            help: STEPS_HELP,
-            value: u64::from(look.counts[place]),
-        };
-        push_row(out, &row)?;
+    total(
+        counter_name(counter).as_bytes(),
+        u64::from(look.count(counter)),
+        STEPS_HELP,
+    )
+}
+
+/// Appends the rows of some counters of steps, in order. An `Err` is out of memory.
+fn push_counts<A: Allocator>(
+    out: &mut Vec<u8, A>,
+    look: &Look,
+    which: &[Counter],
+) -> Result<(), AllocError>
+    ensures { OnOk result (out.new.items ≡ out.old.items ++ counts_text look.now which.now) }
+{
+    for counter in which {
+        push_row(out, &count_row(look, *counter))?;
     }
     Ok(())
 }
 
+/// Appends the rows of all counters of steps. An `Err` is out of memory.
+fn push_counters<A: Allocator>(out: &mut Vec<u8, A>, look: &Look) -> Result<(), AllocError>
+    ensures { OnOk result (out.new.items ≡ out.old.items ++ counts_text look.now counters) }
+{
+    push_counts(out, look, &Counter::ALL)
+}
+
 /// Appends the page of what was counted at a look. An `Err` is out of memory, and may leave a part of it.
-pub fn push_page<A: Allocator>(
-    out: &mut Vec<u8, A>,
-    names: &Names,
-    look: &Look,
-) -> Result<(), AllocError>
+pub fn push_page<A: Allocator>(out: &mut Vec<u8, A>, look: &Look) -> Result<(), AllocError>
     ensures { OnOk result (out.new.items ≡ out.old.items ++ page_text look.now) }
 {
-    push_counters(out, names, look)?;
+    push_counters(out, look)?;
     push_rows(out, &totals(look, look.steps()))?;
     push_rows(out, &gauges(look, look.connections(), look.in_flight()))
 }

@@ -7,7 +7,6 @@ ghost use Rattle.gn_metrics.specs.declared.look.Look.{Look};
 
 use crate::drawing::{DRAWING, draw};
 use crate::meters::Meters;
-use crate::names::Names;
 use crate::page::push_page;
 use bytes::{BufMut, Bytes};
 use http::header::{ALLOW, CONNECTION, CONTENT_TYPE};
@@ -25,7 +24,6 @@ const DRAWN: &str = "/";
 #[derive(Drop)]
 pub(crate) struct Scrape<'a> {
     pub alloc: Global,
-    pub names: &'a Names,
     pub meters: &'a Meters,
 }
 
@@ -43,7 +41,7 @@ impl<'a> Scrape<'a> {
         let form = HeaderValue::from_static("text/plain; version=0.0.4; charset=utf-8");
         response.add_header(CONTENT_TYPE, form)?;
         let mut page = Vec::new(self.alloc);
-        push_page(&mut page, self.names, &self.meters.look())?;
+        push_page(&mut page, &self.meters.look())?;
         response.body.put_slice(&page)
     }
 }

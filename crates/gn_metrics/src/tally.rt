@@ -1,12 +1,14 @@
 //! The steps of a history, counted as its text goes by.
 
 ghost use Rattle.std.specs.Prelude.{◌≡◌, ◌<◌, ◌≤◌, length, take};
+ghost use Rattle.gn_rules.specs.Statistics.{counter_place};
 ghost use Rattle.gn_metrics.specs.Sums.{counted};
 ghost use Rattle.gn_metrics.specs.declared.tally.TheConstants.{LOOKED_AT};
 
 use crate::look::COUNTERS;
 use crate::meters::Meters;
-use crate::names::Names;
+use gn_numbers::counter_named;
+use gn_rules::Counter;
 use memchr::{memchr, memchr2};
 
 /// So many letters of a word are looked at: more than the name of a counter has.
@@ -55,8 +57,7 @@ impl Place {
 /// Counts the steps of a history as its text goes by, in whatever pieces: each line by the first word behind its `=` that is the name
 /// of a counter. That is its reply, or the reason behind `dropped`.
 #[derive(Drop)]
-pub(crate) struct Tally<'n> {
-    names: &'n Names,
+pub(crate) struct Tally {
     place: Place,
     /// The word that is read begins with so many of these letters.
     word: [u8; LOOKED_AT],
@@ -67,16 +68,15 @@ pub(crate) struct Tally<'n> {
     ghost within: { letters ≤ LOOKED_AT },
 }
 
-impl<'n> Tally<'n> {
+impl Tally {
     ghost use Rattle.gn_metrics.specs.Counting.{after_bytes, at_first, letter_read, longer, standing, word_ended};
     ghost use Rattle.gn_metrics.specs.declared.tally.Place.TheVariants.{Event, Rest, Start, Word};
 
     /// Nothing has gone by.
-    pub(crate) fn new(names: &'n Names) -> Self
+    pub(crate) fn new() -> Self
         ensures { standing result ≡ at_first }
     {
         Tally {
-            names,
             place: Place::Start,
             word: [0; LOOKED_AT],
             letters: 0,
@@ -85,13 +85,14 @@ impl<'n> Tally<'n> {
         }
     }
 
-    /// Says what has gone by.
-    pub(crate) fn tell(&self, meters: &Meters) {
+    /// These bytes go by next, and what has gone by then is said.
+    pub(crate) fn follow(&mut self, piece: &[u8], meters: &Meters) {
+        self.read(piece);
         meters.put(&self.counts, self.bytes);
     }
 
     /// These bytes go by next.
-    pub(crate) fn read(&mut self, piece: &[u8])
+    fn read(&mut self, piece: &[u8])
         ensures { standing self.new ≡ after_bytes (standing self.old) piece.now }
     {
         self.bytes = self.bytes.saturating_add(piece.len() as u64);
@@ -197,19 +198,27 @@ impl<'n> Tally<'n> {
     fn end_word(&mut self)
         ensures { standing self.new ≡ word_ended (standing self.old) }
     {
-        let found = self.names.find(&self.word[..self.letters]);
+        let found = counter_named(&self.word[..self.letters]);
         self.letters = 0;
-        if let Some(place) = found {
-            raise(&mut self.counts, place);
+        if let Some(counter) = found {
+            raise(&mut self.counts, counter);
             self.place = Place::Rest;
         }
     }
 }
 
-/// Counts one more at this place, at most up to the last u32, which no history reaches.
-fn raise(counts: &mut [u32; COUNTERS], place: usize)
-    requires { place < COUNTERS }
-    ensures { counts.new ≡ counted place counts.old }
+/// The place of a counter in `Counter::ALL`.
+fn place_of(counter: Counter) -> usize
+    ensures value { result ≡ counter_place counter }
+    ensures within { result < COUNTERS }
 {
+    counter as usize
+}
+
+/// Counts one more of a counter, at most up to the last u32, which no history reaches.
+fn raise(counts: &mut [u32; COUNTERS], counter: Counter)
+    ensures { counts.new ≡ counted (counter_place counter) counts.old }
+{
+    let place = place_of(counter);
     counts[place] = counts[place].saturating_add(1);
 }

@@ -9,65 +9,27 @@ use Rattle.gn_wire.specs.declared.kind.Kind.{Kind}
 use Rattle.gn_wire.specs.declared.kind.Kind.TheVariants.{Ping, Pong, Push, Query}
 use Rattle.gn_wire.specs.Keys.{is_same_key, key_of}
 use Rattle.gn_wire.proofs.EqualityLemmas.{same_is_equal}
-use Rattle.gn_payload.specs.declared.checked.Verdict.TheVariants.{Sound, Malformed}
-use Rattle.gn_payload.specs.Reading.{has_reading}
 use Rattle.gn_rules.specs.declared.config.Config.{Config}
 use Rattle.gn_rules.specs.declared.event.Event.{Event}
 use Rattle.gn_rules.specs.declared.event.Event.TheVariants.{Connect, Close, Admit, Route, Take, Originate}
 use Rattle.gn_rules.specs.declared.receipt.Step.{Step}
-use Rattle.gn_rules.specs.declared.reply.DropReason.TheVariants as reason
 use Rattle.gn_rules.specs.declared.reply.Reply.{Reply}
 use Rattle.gn_rules.specs.declared.reply.Reply.TheVariants.{Routed, Sent}
 use Rattle.gn_rules.specs.declared.sends.Sending.{Sending}
-use Rattle.gn_rules.specs.Answer.{answer, decision_reply, is_request}
-use Rattle.gn_rules.specs.Decision.{Decision, Drop, Local, Flood, Forward, decide, decide_checked}
+use Rattle.gn_rules.specs.Answer.{answer, decision_reply}
+use Rattle.gn_rules.specs.Decision.{Decision, Drop, Local, Flood, Forward, decide}
 use Rattle.gn_rules.specs.Flight.{Admission, admission}
 use Rattle.gn_rules.specs.History.{sends_of, ticket_of}
 use Rattle.gn_rules.specs.Sending.{fanout, flood_sends}
 use Rattle.gn_rules.specs.SeenEntries.{entry_of, is_remembered, keeps, seen_entries}
 use Rattle.gn_rules.proofs.AnswerLemmas.{answered}
+use Rattle.gn_rules.proofs.DecisionLemmas.{key_is_new}
 use Rattle.gn_paths.specs.Paths.{kept_since}
 use Rattle.gn_paths.specs.Sends.{is_kept_kind, sends_of_key}
 use Rattle.gn_laws.proofs.CountLemmas.{tally, count-cons}
 use Rattle.gn_paths.proofs.OriginLemmas.{quiet_sends, was_admitted}
-use Rattle.gn_paths.proofs.PathLemmas.{parts_of, decision_all, fanout_all, rests, route_entry, routed_as}
+use Rattle.gn_paths.proofs.PathLemmas.{decision_all, fanout_all, rests, route_entry, routed_as}
 use Rattle.gn_paths.proofs.RequestLemmas.{originate_parts}
-
--- a Ping or Query that is kept is no duplicate
-kept_flood : {A : Type 0} (s : Config) (past : List (Step A)) (a : Admission) (k : Kind) (remembered : Bool) → is_request k ≡ true
-    → keeps k (decision_reply s past a (cond remembered (Drop reason.Duplicate) Flood)) ≡ true → remembered ≡ false
-kept_flood s past a Ping true asks e = absurd (cc)
-kept_flood s past a Query true asks e = absurd (cc)
-kept_flood s past a k true asks e = absurd (cc)
-kept_flood s past a k false asks e = refl
-
--- nor is a Push
-kept_push : {A : Type 0} (s : Config) (past : List (Step A)) (a : Admission) (other : Decision) (remembered : Bool)
-    → keeps Push (decision_reply s past a (cond remembered (Drop reason.Duplicate) other)) ≡ true → remembered ≡ false
-kept_push s past a other true e = absurd (cc)
-kept_push s past a other false e = refl
-
-keeps_new : {A : Type 0} (s : Config) (past : List (Step A)) (o : ℕ) (id : Guid) (k : Kind) (ttl hops : ℕ) (payload : List ℕ)
-    → keeps k (decision_reply s past (parts_of o id k ttl hops payload) (decide s past (parts_of o id k ttl hops payload))) ≡ true → is_remembered s past (record { kind = k; id = id }) ≡ false
-keeps_new s past o id Ping ttl hops payload e =
-    let a = parts_of o id Ping ttl hops payload in
-    elim (has_reading Ping payload) as (λ b. keeps Ping (decision_reply s past a (decide_checked s past a (cond b Sound Malformed))) ≡ true → is_remembered s past (record { kind = Ping; id = id }) ≡ false) [
-      | true ↦ λ f. kept_flood s past a Ping (is_remembered s past (record { kind = Ping; id = id })) refl f
-      | false ↦ λ f. absurd (cc)
-    ] e
-keeps_new s past o id Query ttl hops payload e =
-    let a = parts_of o id Query ttl hops payload in
-    elim (has_reading Query payload) as (λ b. keeps Query (decision_reply s past a (decide_checked s past a (cond b Sound Malformed))) ≡ true → is_remembered s past (record { kind = Query; id = id }) ≡ false) [
-      | true ↦ λ f. kept_flood s past a Query (is_remembered s past (record { kind = Query; id = id })) refl f
-      | false ↦ λ f. absurd (cc)
-    ] e
-keeps_new s past o id Push ttl hops payload e =
-    let a = parts_of o id Push ttl hops payload in
-    elim (has_reading Push payload) as (λ b. keeps Push (decision_reply s past a (decide_checked s past a (cond b Sound Malformed))) ≡ true → is_remembered s past (record { kind = Push; id = id }) ≡ false) [
-      | true ↦ λ f. kept_push s past a _ (is_remembered s past (record { kind = Push; id = id })) f
-      | false ↦ λ f. absurd (cc)
-    ] e
-keeps_new s past o id k ttl hops payload e = absurd (cc)
 
 -- a key that a step keeps was not remembered
 pub kept_new : {A : Type 0} (s : Config) (past : List (Step A)) (event : Event A) (reply : Reply A) (key : Key) (c : ℕ) → answer s past event ≡ Ok reply → entry_of past event reply ≡ Some (key, c)
@@ -79,7 +41,7 @@ kept_new {A} s past (Route t) reply key c e entry =
     let found : admission past t ≡ Some a = ap (admission past) ticket_is ∙ made.admitted in
     let is = routed_as s past t reply a e found in
     let kept : keeps a.packet.kind (decision_reply s past a (decide s past a)) ≡ true = ap (keeps a.packet.kind) (sym is) ∙ made.kept in
-    subst (λ (k : Key). is_remembered s past k ≡ false) made.same (keeps_new s past a.origin a.packet.id a.packet.kind a.packet.ttl a.packet.hops a.packet.payload kept)
+    subst (λ (k : Key). is_remembered s past k ≡ false) made.same (key_is_new s past a kept)
 kept_new s past (Originate d) (Sent sends) key c e entry =
     let same : key_of d ≡ key = ap (λ (p : Key × ℕ). p.0) (same_Some (key_of d, 0) (key, c) entry) in
     subst (λ (k : Key). is_remembered s past k ≡ false) same (originate_parts s past d (Sent sends) e).1
@@ -110,11 +72,11 @@ pong_apart Query x y e = refl
 pong_apart Push x y e = refl
 pong_apart k x y e = absurd (cc)
 
-keeps_routed : {A : Type 0} (k : Kind) (sends : List (Sending A)) (local : Bool) → is_kept_kind k ≡ true → keeps k (Routed sends local) ≡ true
-keeps_routed Ping sends local e = refl
-keeps_routed Query sends local e = refl
-keeps_routed Push sends local e = refl
-keeps_routed k sends local e = absurd (cc)
+routed_is_kept : {A : Type 0} (k : Kind) (sends : List (Sending A)) (local : Bool) → is_kept_kind k ≡ true → keeps k (Routed sends local) ≡ true
+routed_is_kept Ping sends local e = refl
+routed_is_kept Query sends local e = refl
+routed_is_kept Push sends local e = refl
+routed_is_kept k sends local e = absurd (cc)
 
 -- what a step says of a key: it sends no packet of it, or keeps it
 abbrev SendsKept : {A : Type 0} → List (Step A) → Event A → Reply A → Key → Type 0
@@ -129,8 +91,8 @@ route_sends_kept : {A : Type 0} (s : Config) (past : List (Step A)) (a : Admissi
     → (sends_of_key key (sends_of (decision_reply s past a decision)) ≡ 0) ⊎ (keeps a.packet.kind (decision_reply s past a decision) ≡ true)
 route_sends_kept s past a key kept same (Drop why) = inl refl
 route_sends_kept s past a key kept same Local = inl refl
-route_sends_kept s past a key kept same Flood = inr (keeps_routed a.packet.kind (flood_sends s past a) true (ap (λ (k : Key). is_kept_kind k.kind) (sym same) ∙ kept))
-route_sends_kept s past a key kept same (Forward r) = inr (keeps_routed a.packet.kind _ false (ap (λ (k : Key). is_kept_kind k.kind) (sym same) ∙ kept))
+route_sends_kept s past a key kept same Flood = inr (routed_is_kept a.packet.kind (flood_sends s past a) true (ap (λ (k : Key). is_kept_kind k.kind) (sym same) ∙ kept))
+route_sends_kept s past a key kept same (Forward r) = inr (routed_is_kept a.packet.kind _ false (ap (λ (k : Key). is_kept_kind k.kind) (sym same) ∙ kept))
 
 route_kept : {A : Type 0} (s : Config) (past : List (Step A)) (t : ℕ) (reply : Reply A) (a : Admission) (key : Key) → answer s past (Route t) ≡ Ok reply → admission past t ≡ Some a → is_kept_kind key.kind ≡ true
     → SendsKept past (Route t) reply key

@@ -3,8 +3,9 @@ use Rattle.std.proofs.Common.{◌≡◌, ◌+◌, ℕ, zero, suc, true, if◌the
 use Rattle.std.specs.List.{Contains}
 use Rattle.std.specs.Option.{option_to_list}
 use Rattle.std.proofs.lemmas.List.Elements.{Contains-append_cases, Contains-push, Contains-push_cases}
+use Rattle.std.proofs.lemmas.Option.{same_Some}
 use Rattle.gn_wire.specs.declared.kind.Kind.{Kind}
-use Rattle.gn_wire.specs.declared.kind.Kind.TheVariants.{Ping, Pong, Push, Query, QueryHit}
+use Rattle.gn_wire.specs.declared.kind.Kind.TheVariants.{Ping, Pong, Push, Query}
 use Rattle.gn_wire.specs.Packet.{Packet}
 use Rattle.gn_payload.specs.Fields.{push_servent}
 use Rattle.gn_rules.specs.declared.config.Config.{Config}
@@ -16,12 +17,14 @@ use Rattle.gn_rules.specs.declared.reply.Reply.TheVariants.{Sent}
 use Rattle.gn_rules.specs.Answer.{answer, is_request, IsLegal}
 use Rattle.gn_rules.specs.History.{is_take, taken_of}
 use Rattle.gn_rules.specs.Output.{queued, taken}
+use Rattle.gn_rules.specs.Routings.{routing_of}
 use Rattle.gn_rules.specs.Sending.{own_pong}
 use Rattle.gn_rules.proofs.LegalLemmas.{legal_before}
 use Rattle.gn_paths.specs.Networks.{AnswersCameBack, AnswersCrossBack, AnswersFollow, Asked, CameBy, Carries, HasHit, HasKey, IsNetwork, Network}
 use Rattle.gn_paths.specs.Paths.{answered_kind}
 use Rattle.gn_paths.specs.Sends.{admitted_by, admitted_on, originated, originated_by, IsForward, IsOwnPong, IsPassedOn}
 use Rattle.gn_paths.proofs.OriginLemmas.{answers_were_asked, none_in, nothing_from_nowhere, taken_queued}
+use Rattle.gn_paths.proofs.PathLemmas.{not_asking}
 use Rattle.gn_paths.proofs.RequestLemmas.{originate_parts}
 use Rattle.gn_paths.proofs.ToldLemmas.{pushes_were_told}
 
@@ -62,19 +65,26 @@ own_requests s (step ∷ past) p legal has =
       | inr now ↦ own_step s past step.event step.reply p legal.0 now
     ]
 
-hit_is_no_request : (k : Kind) → k ≡ QueryHit → is_request k ≡ true → ⊥
-hit_is_no_request k is asks = let same : is_request k ≡ is_request QueryHit = ap is_request is in cc
+-- an answer that was queued is the own Pong, or was passed on
+answer_passed : {A : Type 0} (s : Config) (past : List (Step A)) (c : ℕ) (p : Packet) (kind : Kind) → IsLegal s past → Contains (queued past c) p → answered_kind p.kind ≡ Some kind → IsOwnPong s past c p ⊎ IsPassedOn s past c p
+answer_passed {A} s past c p kind legal has answers =
+    elim (nothing_from_nowhere A s past c p legal has) as (λ w. IsOwnPong s past c p ⊎ IsPassedOn s past c p) [
+      | inl own ↦ inl own
+      | inr (inl own) ↦ absurd (not_asking (routing_of p.kind) kind (own_requests s past p legal own) answers)
+      | inr (inr on) ↦ inr on
+    ]
 
-hit_is_no_pong : (p q : Packet) → p.kind ≡ QueryHit → p ≡ q → q.kind ≡ Pong → ⊥
-hit_is_no_pong p q is same pong = let other : QueryHit ≡ Pong = sym is ∙ ap (λ (r : Packet). r.kind) same ∙ pong in cc
+-- what answers a Query is no Pong
+no_own_pong : (p q : Packet) → answered_kind p.kind ≡ Some Query → p ≡ q → q.kind ≡ Pong → ⊥
+no_own_pong p q answers same pong =
+    let other : Query ≡ Ping = same_Some Query Ping (sym answers ∙ ap (λ (r : Packet). answered_kind r.kind) same ∙ ap answered_kind pong) in cc
 
--- a Query Hit that was queued was passed on
-hit_passed : {A : Type 0} (s : Config) (past : List (Step A)) (c : ℕ) (hit : Packet) → IsLegal s past → Contains (queued past c) hit → hit.kind ≡ QueryHit → IsPassedOn s past c hit
-hit_passed {A} s past c hit legal has is =
-    elim (nothing_from_nowhere A s past c hit legal has) as (λ w. IsPassedOn s past c hit) [
-      | inl own ↦ absurd (hit_is_no_pong hit (own_pong s.own own.0) is own.3 refl)
-      | inr (inl own) ↦ absurd (hit_is_no_request hit.kind is (own_requests s past hit legal own))
-      | inr (inr on) ↦ on
+-- so it was passed on
+hit_passed : {A : Type 0} (s : Config) (past : List (Step A)) (c : ℕ) (hit : Packet) → IsLegal s past → Contains (queued past c) hit → answered_kind hit.kind ≡ Some Query → IsPassedOn s past c hit
+hit_passed s past c hit legal has answers =
+    elim (answer_passed s past c hit Query legal has answers) as (λ w. IsPassedOn s past c hit) [
+      | inl own ↦ absurd (no_own_pong hit (own_pong s.own own.0) answers own.3 refl)
+      | inr on ↦ on
     ]
 
 -- the request of an answer that came over a link went over it the other way
@@ -92,20 +102,6 @@ request_went {A} net i c j d p kind is link has answers =
 -- what came over a link was queued at its other end
 queued_there : {A : Type 0} (net : Network A) → IsNetwork net → (i c j d : ℕ) (p : Packet) → net.joined i c ≡ Some (j, d) → Contains (admitted_on (net.history i) c) p → Contains (queued (net.history j) d) p
 queued_there net is i c j d p link has = taken_queued (net.settings j) (net.history j) d p (is.legal j) (is.carries j d i c (is.both i c j d link) p has)
-
-own_is_asking : (k kind : Kind) → is_request k ≡ true → answered_kind k ≡ Some kind → ⊥
-own_is_asking Ping kind asks answers = cc
-own_is_asking Query kind asks answers = cc
-own_is_asking k kind asks answers = cc
-
--- an answer that was queued is the own Pong, or was passed on
-answer_passed : {A : Type 0} (s : Config) (past : List (Step A)) (c : ℕ) (p : Packet) (kind : Kind) → IsLegal s past → Contains (queued past c) p → answered_kind p.kind ≡ Some kind → IsOwnPong s past c p ⊎ IsPassedOn s past c p
-answer_passed {A} s past c p kind legal has answers =
-    elim (nothing_from_nowhere A s past c p legal has) as (λ w. IsOwnPong s past c p ⊎ IsPassedOn s past c p) [
-      | inl own ↦ inl own
-      | inr (inl own) ↦ absurd (own_is_asking p.kind kind (own_requests s past p legal own) answers)
-      | inr (inr on) ↦ inr on
-    ]
 
 same_answers : (life : ℕ) (d p : Packet) (kind : Kind) → IsForward life d p → answered_kind p.kind ≡ Some kind → answered_kind d.kind ≡ Some kind
 same_answers life d p kind on answers = ap answered_kind (sym on.kind) ∙ answers
@@ -134,22 +130,22 @@ answer_came {A} net is (suc n) i c p kind has answers hops =
       ]
     ] refl
 
--- the same of a Query Hit, which is no Pong
-hit_came : {A : Type 0} (net : Network A) → IsNetwork net → (n i c : ℕ) (hit : Packet) → Contains (admitted_on (net.history i) c) hit → hit.kind ≡ QueryHit → hit.hops ≡ n → CameBy net Query hit n i c
-hit_came {A} net is zero i c hit has kind hops =
+-- the same of what answers a Query, which is no Pong
+hit_came : {A : Type 0} (net : Network A) → IsNetwork net → (n i c : ℕ) (hit : Packet) → Contains (admitted_on (net.history i) c) hit → answered_kind hit.kind ≡ Some Query → hit.hops ≡ n → CameBy net Query hit n i c
+hit_came {A} net is zero i c hit has answers hops =
     elim (net.joined i c) as (λ o. net.joined i c ≡ o → o ≡ None) [
       | None ↦ λ link. refl
       | Some end ↦ λ link.
-          let on = hit_passed (net.settings end.0) (net.history end.0) end.1 hit (is.legal end.0) (queued_there net is i c end.0 end.1 hit link has) kind in
+          let on = hit_passed (net.settings end.0) (net.history end.0) end.1 hit (is.legal end.0) (queued_there net is i c end.0 end.1 hit link has) answers in
           absurd (omega (arith, hops, on.4.hops))
     ] refl
-hit_came {A} net is (suc n) i c hit has kind hops =
+hit_came {A} net is (suc n) i c hit has answers hops =
     elim (net.joined i c) as (λ o. net.joined i c ≡ o → CameBy net Query hit (suc n) i c) [
       | None ↦ λ link. inl link
       | Some end ↦ λ link.
-          let on = hit_passed (net.settings end.0) (net.history end.0) end.1 hit (is.legal end.0) (queued_there net is i c end.0 end.1 hit link has) kind in
-          let before = hit_came net is n end.0 on.0 on.1 on.2 (sym on.4.kind ∙ kind) (omega (arith, hops, on.4.hops)) in
-          inr (end.0, end.1, request_went net i c end.0 end.1 hit Query is link has (ap answered_kind kind), inr (on.0, on.1, on.2, on.3, on.4, before))
+          let on = hit_passed (net.settings end.0) (net.history end.0) end.1 hit (is.legal end.0) (queued_there net is i c end.0 end.1 hit link has) answers in
+          let before = hit_came net is n end.0 on.0 on.1 on.2 (same_answers (net.settings end.0).numbers.life on.1 hit Query on.4 answers) (omega (arith, hops, on.4.hops)) in
+          inr (end.0, end.1, request_went net i c end.0 end.1 hit Query is link has answers, inr (on.0, on.1, on.2, on.3, on.4, before))
     ] refl
 
 one_more : (n : ℕ) → suc n ≡ n + 1
@@ -158,7 +154,7 @@ one_more n = omega arith
 pub answers_came_back : (A : Type 0) → AnswersCameBack A
 answers_came_back A = record {
   answers = λ net i c p kind is has answers. subst (λ n. CameBy net kind p n i c) (one_more p.hops) (answer_came net is p.hops i c p kind has answers refl);
-  hits = λ net i c hit is has kind. hit_came net is hit.hops i c hit has kind refl;
+  hits = λ net i c hit is has kind. hit_came net is hit.hops i c hit has (ap answered_kind kind) refl;
 }
 
 -- what a step admits on d takes nothing

@@ -22,6 +22,7 @@ use Rattle.gn_rules.specs.Decision.{decide}
 use Rattle.gn_rules.specs.Flight.{Admission, admission, admission_of}
 use Rattle.gn_rules.specs.History.{admitted_of, is_at, sends_of}
 use Rattle.gn_rules.specs.Output.{out, queued, queued_to, taken}
+use Rattle.gn_rules.specs.Routings.{routing_of}
 use Rattle.gn_rules.specs.Sending.{fanout, own_pong, send}
 use Rattle.gn_rules.proofs.AnswerLemmas.{answered, routed_reply}
 use Rattle.gn_rules.proofs.StepLemmas.{is_itself}
@@ -197,9 +198,9 @@ pong_asked s past t a found ping kind answers =
     let is : Ping ≡ kind = same_Some Ping kind answers in
     (a.packet, admitted_among past t a found, ap (λ (k : Kind). record { kind = k; id = a.packet.id }) (ping ∙ is))
 
-on_asked : {A : Type 0} (s : Config) (past : List (Step A)) (a : Admission) (r : ℕ) → Passes s past a a.packet.kind r → WasAsked past (send s past (forward_of s.numbers.life a.packet) r)
+on_asked : {A : Type 0} (s : Config) (past : List (Step A)) (a : Admission) (r : ℕ) → Passes s past a (routing_of a.packet.kind) r → WasAsked past (send s past (forward_of s.numbers.life a.packet) r)
 on_asked s past a r passes kind answers =
-    let way = way_back s past a a.packet.kind kind r answers passes.way in
+    let way = way_back s past a (routing_of a.packet.kind) kind r answers passes.way in
     came_admitted s.numbers.seen past (record { kind = kind; id = a.packet.id }) r (came_from s.numbers.seen past (record { kind = kind; id = a.packet.id }) r way.0 way.1)
 
 -- each send of a Route that answers was asked for
@@ -209,7 +210,7 @@ route_asked {A} s past t reply a e found =
     subst (λ (r : Reply A). AllByRecursion (λ x. WasAsked past x) (sends_of r)) (sym (routed_as s past t reply a e found))
     (decision_all (λ x. WasAsked past x) s past a (decide s past a) (rests s past a)
     (λ ping. pong_asked s past t a found ping)
-    (λ c asks other unexpired kind answers. absurd (not_asking a.packet.kind kind asks answers))
+    (λ c asks other unexpired kind answers. absurd (not_asking (routing_of a.packet.kind) kind asks answers))
     (λ r passes. on_asked s past a r passes))
 
 step_asked : {A : Type 0} (s : Config) (past : List (Step A)) (event : Event A) (reply : Reply A) → answer s past event ≡ Ok reply → AllByRecursion (λ x. WasAsked past x) (sends_of reply)
@@ -219,7 +220,7 @@ step_asked {A} s past (Route t) reply e =
 step_asked {A} s past (Originate d) reply e =
     let asks = (originate_parts s past d reply e).0 in
     subst (λ (r : Reply A). AllByRecursion (λ x. WasAsked past x) (sends_of r)) (sym (answered s past (Originate d) reply e))
-    (fanout_all (λ x. WasAsked past x) s past 0 d (λ c other kind answers. absurd (not_asking d.kind kind asks answers)))
+    (fanout_all (λ x. WasAsked past x) s past 0 d (λ c other kind answers. absurd (not_asking (routing_of d.kind) kind asks answers)))
 step_asked {A} s past Connect reply e = subst (λ sends. AllByRecursion (λ x. WasAsked past x) sends) (sym (quiet_sends s past Connect reply e tt)) tt
 step_asked {A} s past (Close d) reply e = subst (λ sends. AllByRecursion (λ x. WasAsked past x) sends) (sym (quiet_sends s past (Close d) reply e tt)) tt
 step_asked {A} s past (Admit d packet) reply e = subst (λ sends. AllByRecursion (λ x. WasAsked past x) sends) (sym (quiet_sends s past (Admit d packet) reply e tt)) tt

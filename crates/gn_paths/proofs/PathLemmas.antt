@@ -6,9 +6,8 @@ use Rattle.std.specs.Option.{option_map_or, option_to_list}
 use Rattle.std.proofs.lemmas.Grind.{common_steps}
 use Rattle.std.proofs.lemmas.Option.{cond_some, option_and_then_some, same_Some}
 use Rattle.gn_wire.specs.declared.key.Key.{Key}
-use Rattle.gn_wire.specs.declared.kind.Guid.{Guid}
 use Rattle.gn_wire.specs.declared.kind.Kind.{Kind}
-use Rattle.gn_wire.specs.declared.kind.Kind.TheVariants.{Ping, Pong, Push, Query, QueryHit, Unknown}
+use Rattle.gn_wire.specs.declared.kind.Kind.TheVariants.{Ping}
 use Rattle.gn_wire.specs.Packet.{forward_of, is_expired, life_left, Packet}
 use Rattle.gn_wire.specs.Keys.{is_same_id, is_same_key, key_of}
 use Rattle.gn_wire.proofs.EqualityLemmas.{same_is_equal}
@@ -23,16 +22,19 @@ use Rattle.gn_rules.specs.declared.receipt.Step.{Step}
 use Rattle.gn_rules.specs.declared.reply.DropReason.TheVariants as reason
 use Rattle.gn_rules.specs.declared.reply.Reply.{Reply}
 use Rattle.gn_rules.specs.declared.reply.Reply.TheVariants as reply
+use Rattle.gn_rules.specs.declared.routing.Routing.{Routing}
+use Rattle.gn_rules.specs.declared.routing.Routing.TheVariants.{Floods, Back, Pushed, Unnamed}
 use Rattle.gn_rules.specs.declared.sends.Sending.{Sending}
 use Rattle.gn_rules.specs.Answer.{answer, decision_reply, is_request}
-use Rattle.gn_rules.specs.Decision.{Decision, Drop, Local, Flood, Forward, checks, decide, decide_checked, decide_reply, decide_sound}
+use Rattle.gn_rules.specs.Decision.{Decision, Drop, Local, Flood, Forward, checks, decide, decide_checked, decide_reply, decide_routed}
 use Rattle.gn_rules.specs.Flight.{Admission, admission, is_routed}
 use Rattle.gn_rules.specs.History.{live, live_connections, sends_of}
+use Rattle.gn_rules.specs.Routings.{does_flood, routing_of}
 use Rattle.gn_rules.specs.Sending.{fanout, flood_sends, is_ping, own_pong, send}
 use Rattle.gn_rules.specs.Servents.{servent_route}
 use Rattle.gn_rules.specs.SeenEntries.{entry_of, is_remembered, keeps, seen_entries, source}
 use Rattle.gn_rules.proofs.AnswerLemmas.{routed_reply}
-use Rattle.gn_paths.specs.Paths.{answered_kind, kept_since, AnswersGoBack, CameFrom, GoesBack, RoutedFrom}
+use Rattle.gn_paths.specs.Paths.{answered_kind, asked_kind, kept_since, AnswersGoBack, CameFrom, GoesBack, RoutedFrom}
 use Rattle.gn_paths.specs.Sends.{IsForward, IsOwnOrOn, LifeFalls}
 
 -- numbers that test as others are others
@@ -42,88 +44,77 @@ differ a b e = λ h. grind (arith, common_steps, e, h)
 pub below_is : (n m : ℕ) → nat_lt n m ≡ true → n < m
 below_is n m e = grind (arith, common_steps, e)
 
--- an admission by its parts
-abbrev pub parts_of : ℕ → Guid → Kind → ℕ → ℕ → List ℕ → Admission
-parts_of o id k ttl hops payload = record { origin = o; packet = record { id = id; kind = k; ttl = ttl; hops = hops; payload = payload } }
-
--- the way that a descriptor of a kind is passed on
-abbrev pub IsWay : {A : Type 0} → Config → List (Step A) → Admission → Kind → ℕ → Type 0
-IsWay s past a Pong r = ((r == 0) ≡ false) × (source s past (record { kind = Ping; id = a.packet.id }) ≡ Some r)
-IsWay s past a QueryHit r = ((r == 0) ≡ false) × (source s past (record { kind = Query; id = a.packet.id }) ≡ Some r)
-IsWay s past a Push r = (is_remembered s past (key_of a.packet) ≡ false) × (servent_route s past (push_servent a.packet.payload) ≡ Some r)
-IsWay s past a kind r = ⊥
+-- the way that a descriptor is passed on, by its routing
+abbrev pub IsWay : {A : Type 0} → Config → List (Step A) → Admission → Routing → ℕ → Type 0
+IsWay s past a (Back kind) r = ((r == 0) ≡ false) × (source s past (record { kind = kind; id = a.packet.id }) ≡ Some r)
+IsWay s past a Pushed r = (is_remembered s past (key_of a.packet) ≡ false) × (servent_route s past (push_servent a.packet.payload) ≡ Some r)
+IsWay s past a routing r = ⊥
 
 -- what passing on to r rests on
-pub record Passes {A : Type 0} (s : Config) (past : List (Step A)) (a : Admission) (kind : Kind) (r : ℕ) : Type 0 where
+pub record Passes {A : Type 0} (s : Config) (past : List (Step A)) (a : Admission) (routing : Routing) (r : ℕ) : Type 0 where
   pub alive : live past r ≡ true
   pub other : (r == a.origin) ≡ false
   pub unexpired : is_expired s.numbers.life a.packet ≡ false
-  pub way : IsWay s past a kind r
+  pub way : IsWay s past a routing r
 
--- what a decision on a descriptor of a kind rests on
-abbrev pub RestsOn : {A : Type 0} → Config → List (Step A) → Admission → Kind → Decision → Type 0
-RestsOn s past a kind (Forward r) = Passes s past a kind r
-RestsOn s past a kind Flood = (is_request kind ≡ true) × (is_remembered s past (key_of a.packet) ≡ false)
-RestsOn s past a kind Local = is_request kind ≡ false
-RestsOn s past a kind (Drop why) = Unit {0}
+-- what a decision on a descriptor rests on, by its routing
+abbrev pub RestsOn : {A : Type 0} → Config → List (Step A) → Admission → Routing → Decision → Type 0
+RestsOn s past a routing (Forward r) = Passes s past a routing r
+RestsOn s past a routing Flood = (does_flood routing ≡ true) × (is_remembered s past (key_of a.packet) ≡ false)
+RestsOn s past a routing Local = does_flood routing ≡ false
+RestsOn s past a routing (Drop why) = Unit {0}
 
-checks_rest : {A : Type 0} (s : Config) (past : List (Step A)) (a : Admission) (kind : Kind) (r : ℕ) → IsWay s past a kind r → RestsOn s past a kind (checks s past a r)
-checks_rest s past a kind r way =
-    elim (live past r) as (λ b. live past r ≡ b → RestsOn s past a kind (cond (not b) (Drop reason.RouteGone) (cond (r == a.origin) (Drop reason.BackToSender) (cond (is_expired s.numbers.life a.packet) (Drop reason.Expired) (Forward r))))) [
+checks_rest : {A : Type 0} (s : Config) (past : List (Step A)) (a : Admission) (routing : Routing) (r : ℕ) → IsWay s past a routing r → RestsOn s past a routing (checks s past a r)
+checks_rest s past a routing r way =
+    elim (live past r) as (λ b. live past r ≡ b → RestsOn s past a routing (cond (not b) (Drop reason.RouteGone) (cond (r == a.origin) (Drop reason.BackToSender) (cond (is_expired s.numbers.life a.packet) (Drop reason.Expired) (Forward r))))) [
       | false ↦ λ e. tt
-      | true ↦ λ e. elim (r == a.origin) as (λ b. (r == a.origin) ≡ b → RestsOn s past a kind (cond b (Drop reason.BackToSender) (cond (is_expired s.numbers.life a.packet) (Drop reason.Expired) (Forward r)))) [
+      | true ↦ λ e. elim (r == a.origin) as (λ b. (r == a.origin) ≡ b → RestsOn s past a routing (cond b (Drop reason.BackToSender) (cond (is_expired s.numbers.life a.packet) (Drop reason.Expired) (Forward r)))) [
         | true ↦ λ f. tt
-        | false ↦ λ f. elim (is_expired s.numbers.life a.packet) as (λ b. is_expired s.numbers.life a.packet ≡ b → RestsOn s past a kind (cond b (Drop reason.Expired) (Forward r))) [
+        | false ↦ λ f. elim (is_expired s.numbers.life a.packet) as (λ b. is_expired s.numbers.life a.packet ≡ b → RestsOn s past a routing (cond b (Drop reason.Expired) (Forward r))) [
           | true ↦ λ g. tt
           | false ↦ λ g. record { alive = e; other = f; unexpired = g; way = way }
         ] refl
       ] refl
     ] refl
 
-reply_rests : {A : Type 0} (s : Config) (past : List (Step A)) (a : Admission) (kind : Kind) (found : Option ℕ) → is_request kind ≡ false → ((r : ℕ) → (r == 0) ≡ false → found ≡ Some r → IsWay s past a kind r)
-    → RestsOn s past a kind (decide_reply s past a found)
-reply_rests s past a kind None replies way = tt
-reply_rests s past a kind (Some r) replies way =
-    elim (r == 0) as (λ b. (r == 0) ≡ b → RestsOn s past a kind (cond b Local (checks s past a r))) [
+reply_rests : {A : Type 0} (s : Config) (past : List (Step A)) (a : Admission) (routing : Routing) (found : Option ℕ) → does_flood routing ≡ false → ((r : ℕ) → (r == 0) ≡ false → found ≡ Some r → IsWay s past a routing r)
+    → RestsOn s past a routing (decide_reply s past a found)
+reply_rests s past a routing None replies way = tt
+reply_rests s past a routing (Some r) replies way =
+    elim (r == 0) as (λ b. (r == 0) ≡ b → RestsOn s past a routing (cond b Local (checks s past a r))) [
       | true ↦ λ e. replies
-      | false ↦ λ e. checks_rest s past a kind r (way r e refl)
+      | false ↦ λ e. checks_rest s past a routing r (way r e refl)
     ] refl
 
 push_rests : {A : Type 0} (s : Config) (past : List (Step A)) (a : Admission) (found : Option ℕ) → servent_route s past (push_servent a.packet.payload) ≡ found → is_remembered s past (key_of a.packet) ≡ false
-    → RestsOn s past a Push (option_map_or (checks s past a) found (Drop reason.NoRoute))
+    → RestsOn s past a Pushed (option_map_or (checks s past a) found (Drop reason.NoRoute))
 push_rests s past a None is new = tt
-push_rests s past a (Some r) is new = checks_rest s past a Push r (new, is)
+push_rests s past a (Some r) is new = checks_rest s past a Pushed r (new, is)
 
-flood_rests : {A : Type 0} (s : Config) (past : List (Step A)) (a : Admission) (kind : Kind) → is_request kind ≡ true
-    → RestsOn s past a kind (if is_remembered s past (key_of a.packet) then Drop reason.Duplicate else Flood)
-flood_rests s past a kind asks =
-    elim (is_remembered s past (key_of a.packet)) as (λ b. is_remembered s past (key_of a.packet) ≡ b → RestsOn s past a kind (cond b (Drop reason.Duplicate) Flood)) [
+routed_rests : {A : Type 0} (s : Config) (past : List (Step A)) (a : Admission) (routing : Routing) → RestsOn s past a routing (decide_routed s past a routing)
+routed_rests s past a Floods =
+    elim (is_remembered s past (key_of a.packet)) as (λ b. is_remembered s past (key_of a.packet) ≡ b → RestsOn s past a Floods (cond b (Drop reason.Duplicate) Flood)) [
       | true ↦ λ e. tt
-      | false ↦ λ e. (asks, e)
+      | false ↦ λ e. (refl, e)
     ] refl
-
-sound_rests : {A : Type 0} (s : Config) (past : List (Step A)) (a : Admission) (kind : Kind) → RestsOn s past a kind (decide_sound s past a kind)
-sound_rests s past a Ping = flood_rests s past a Ping refl
-sound_rests s past a Query = flood_rests s past a Query refl
-sound_rests s past a Pong = reply_rests s past a Pong (source s past (record { kind = Ping; id = a.packet.id })) refl (λ r other found. (other, found))
-sound_rests s past a QueryHit = reply_rests s past a QueryHit (source s past (record { kind = Query; id = a.packet.id })) refl (λ r other found. (other, found))
-sound_rests s past a Push =
+routed_rests s past a (Back kind) = reply_rests s past a (Back kind) (source s past (record { kind = kind; id = a.packet.id })) refl (λ r other found. (other, found))
+routed_rests s past a Pushed =
     let to = push_servent a.packet.payload in
-    elim (is_remembered s past (key_of a.packet)) as (λ b. is_remembered s past (key_of a.packet) ≡ b → RestsOn s past a Push (cond b (Drop reason.Duplicate) (cond (is_same_id to s.own.servent) Local (option_map_or (checks s past a) (servent_route s past to) (Drop reason.NoRoute))))) [
+    elim (is_remembered s past (key_of a.packet)) as (λ b. is_remembered s past (key_of a.packet) ≡ b → RestsOn s past a Pushed (cond b (Drop reason.Duplicate) (cond (is_same_id to s.own.servent) Local (option_map_or (checks s past a) (servent_route s past to) (Drop reason.NoRoute))))) [
       | true ↦ λ e. tt
-      | false ↦ λ e. elim (is_same_id to s.own.servent) as (λ b. RestsOn s past a Push (cond b Local (option_map_or (checks s past a) (servent_route s past to) (Drop reason.NoRoute)))) [
+      | false ↦ λ e. elim (is_same_id to s.own.servent) as (λ b. RestsOn s past a Pushed (cond b Local (option_map_or (checks s past a) (servent_route s past to) (Drop reason.NoRoute)))) [
         | true ↦ refl
         | false ↦ push_rests s past a (servent_route s past to) refl e
       ]
     ] refl
-sound_rests s past a (Unknown code) = tt
+routed_rests s past a Unnamed = tt
 
-checked_rests : {A : Type 0} (s : Config) (past : List (Step A)) (a : Admission) (verdict : Verdict) → RestsOn s past a a.packet.kind (decide_checked s past a verdict)
+checked_rests : {A : Type 0} (s : Config) (past : List (Step A)) (a : Admission) (verdict : Verdict) → RestsOn s past a (routing_of a.packet.kind) (decide_checked s past a verdict)
 checked_rests s past a UnknownKind = tt
 checked_rests s past a Malformed = tt
-checked_rests s past a Sound = sound_rests s past a a.packet.kind
+checked_rests s past a Sound = routed_rests s past a (routing_of a.packet.kind)
 
-pub rests : {A : Type 0} (s : Config) (past : List (Step A)) (a : Admission) → RestsOn s past a a.packet.kind (decide s past a)
+pub rests : {A : Type 0} (s : Config) (past : List (Step A)) (a : Admission) → RestsOn s past a (routing_of a.packet.kind) (decide s past a)
 rests s past a = checked_rests s past a (verdict_of a.packet)
 
 pub in_flight_is : (routed : Bool) (admitted : Option Admission) (a : Admission) → cond routed None admitted ≡ Some a → admitted ≡ Some a
@@ -259,29 +250,26 @@ came_from {A} n (step ∷ past) key c other e =
           | false ↦ λ apart g. came_after m step past key entry.0 c entry.1 h apart (before m g)
         ] refl f
 
-pub not_asking : (k kind : Kind) → is_request k ≡ true → answered_kind k ≡ Some kind → ⊥
-not_asking Ping kind asks answers = cc
-not_asking Query kind asks answers = cc
-not_asking k kind asks answers = cc
+-- a request answers none
+pub not_asking : (routing : Routing) (kind : Kind) → does_flood routing ≡ true → asked_kind routing ≡ Some kind → ⊥
+not_asking Floods kind asks answers = cc
+not_asking routing kind asks answers = cc
 
 -- an answer's way is that of its request
-pub way_back : {A : Type 0} (s : Config) (past : List (Step A)) (a : Admission) (k kind : Kind) (r : ℕ) → answered_kind k ≡ Some kind → IsWay s past a k r
+pub way_back : {A : Type 0} (s : Config) (past : List (Step A)) (a : Admission) (routing : Routing) (kind : Kind) (r : ℕ) → asked_kind routing ≡ Some kind → IsWay s past a routing r
     → ((r == 0) ≡ false) × (source s past (record { kind = kind; id = a.packet.id }) ≡ Some r)
-way_back s past a Pong kind r answers way =
-    let is : Ping ≡ kind = same_Some Ping kind answers in
+way_back s past a (Back asked) kind r answers way =
+    let is : asked ≡ kind = same_Some asked kind answers in
     (way.0, ap (λ (k : Kind). source s past (record { kind = k; id = a.packet.id })) (sym is) ∙ way.1)
-way_back s past a QueryHit kind r answers way =
-    let is : Query ≡ kind = same_Some Query kind answers in
-    (way.0, ap (λ (k : Kind). source s past (record { kind = k; id = a.packet.id })) (sym is) ∙ way.1)
-way_back s past a k kind r answers way = absurd (cc)
+way_back s past a routing kind r answers way = absurd (cc)
 
-back : {A : Type 0} (s : Config) (past : List (Step A)) (a : Admission) (kind : Kind) → answered_kind a.packet.kind ≡ Some kind → (decision : Decision) → RestsOn s past a a.packet.kind decision
+sent_back : {A : Type 0} (s : Config) (past : List (Step A)) (a : Admission) (kind : Kind) → answered_kind a.packet.kind ≡ Some kind → (decision : Decision) → RestsOn s past a (routing_of a.packet.kind) decision
     → (sends_of (decision_reply s past a decision) ≡ []) ⊎ GoesBack s past a (record { kind = kind; id = a.packet.id }) (sends_of (decision_reply s past a decision))
-back s past a kind answers (Drop why) rest = inl refl
-back s past a kind answers Local rest = inl refl
-back s past a kind answers Flood rest = absurd (not_asking a.packet.kind kind rest.0 answers)
-back s past a kind answers (Forward r) rest =
-    let way = way_back s past a a.packet.kind kind r answers rest.way in
+sent_back s past a kind answers (Drop why) rest = inl refl
+sent_back s past a kind answers Local rest = inl refl
+sent_back s past a kind answers Flood rest = absurd (not_asking (routing_of a.packet.kind) kind rest.0 answers)
+sent_back s past a kind answers (Forward r) rest =
+    let way = way_back s past a (routing_of a.packet.kind) kind r answers rest.way in
     inr (record {
       back = record { to = r; once = refl; alive = rest.alive; other = differ r a.origin rest.other; unexpired = rest.unexpired };
       asked = came_from s.numbers.seen past (record { kind = kind; id = a.packet.id }) r way.0 way.1;
@@ -290,7 +278,7 @@ back s past a kind answers (Forward r) rest =
 pub answers_go_back : (A : Type 0) → AnswersGoBack A
 answers_go_back A s past t reply a kind e found answers =
     subst (λ (r : Reply A). (sends_of r ≡ []) ⊎ GoesBack s past a (record { kind = kind; id = a.packet.id }) (sends_of r)) (sym (routed_as s past t reply a e found))
-    (back s past a kind answers (decide s past a) (rests s past a))
+    (sent_back s past a kind answers (decide s past a) (rests s past a))
 
 -- what is left of a life is no more than the TTL
 left_most : (life : ℕ) (d : Packet) → life_left life d ≤ d.ttl
@@ -365,10 +353,10 @@ flood_all {A} P s past a pong each = all_append P _ _ own others
     others = forwards (is_expired s.numbers.life a.packet) refl
 
 -- each send of a decision is the own Pong, or the forward to another connection
-pub decision_all : {A : Type 0} (P : Sending A → Type 0) (s : Config) (past : List (Step A)) (a : Admission) (decision : Decision) → RestsOn s past a a.packet.kind decision
+pub decision_all : {A : Type 0} (P : Sending A → Type 0) (s : Config) (past : List (Step A)) (a : Admission) (decision : Decision) → RestsOn s past a (routing_of a.packet.kind) decision
     → (a.packet.kind ≡ Ping → P (send s past (own_pong s.own a.packet) a.origin))
     → ((c : ℕ) → is_request a.packet.kind ≡ true → c ≢ a.origin → is_expired s.numbers.life a.packet ≡ false → P (send s past (forward_of s.numbers.life a.packet) c))
-    → ((r : ℕ) → Passes s past a a.packet.kind r → P (send s past (forward_of s.numbers.life a.packet) r))
+    → ((r : ℕ) → Passes s past a (routing_of a.packet.kind) r → P (send s past (forward_of s.numbers.life a.packet) r))
     → AllByRecursion P (sends_of (decision_reply s past a decision))
 decision_all P s past a (Drop why) rest pong each on = tt
 decision_all P s past a Local rest pong each on = tt

@@ -6,7 +6,7 @@ use Rattle.std.specs.Option.{option_to_list}
 use Rattle.std.proofs.lemmas.Option.{cond_some, option_and_then_some, same_Some}
 use Rattle.gn_wire.specs.declared.kind.Guid.{Guid}
 use Rattle.gn_wire.specs.declared.kind.Kind.{Kind}
-use Rattle.gn_wire.specs.declared.kind.Kind.TheVariants.{Push, QueryHit}
+use Rattle.gn_wire.specs.declared.kind.Kind.TheVariants.{Push}
 use Rattle.gn_wire.specs.Keys.{is_same_id}
 use Rattle.gn_wire.proofs.EqualityLemmas.{same_is_equal}
 use Rattle.gn_payload.specs.Fields.{hit_servent, push_servent}
@@ -20,15 +20,13 @@ use Rattle.gn_rules.specs.Answer.{decision_reply, is_request}
 use Rattle.gn_rules.specs.Decision.{Decision, Drop, Local, Flood, Forward, decide}
 use Rattle.gn_rules.specs.Flight.{Admission, admission}
 use Rattle.gn_rules.specs.History.{sends_of}
+use Rattle.gn_rules.specs.Routings.{routing_of}
 use Rattle.gn_rules.specs.ServentLaw.{hits, others}
 use Rattle.gn_rules.specs.Servents.{hit_of, is_query_hit, servent_route}
+use Rattle.gn_rules.proofs.DecisionLemmas.{hit_is}
 use Rattle.gn_rules.proofs.ServentLemmas.{servent_route_is_last}
 use Rattle.gn_paths.specs.Paths.{hits_since, GoesToServent, HitCameFrom, PushesGoBack, RoutedFrom}
 use Rattle.gn_paths.proofs.PathLemmas.{below_is, differ, further, rests, routed_as, IsWay, RestsOn}
-
-hit_is : (k : Kind) → is_query_hit k ≡ true → k ≡ QueryHit
-hit_is QueryHit e = refl
-hit_is k e = absurd (cc)
 
 -- the hits since, with one step more
 hits_more : {A : Type 0} (step : Step A) (past : List (Step A)) (c : ℕ) (from : RoutedFrom past c)
@@ -119,10 +117,10 @@ pub push_asks_not : (k : Kind) → k ≡ Push → is_request k ≡ true → ⊥
 push_asks_not k is asks = let same : is_request k ≡ is_request Push = ap is_request is in cc
 
 -- a Push's way is the route to its servent
-pub push_way : {A : Type 0} (s : Config) (past : List (Step A)) (a : Admission) (k : Kind) (r : ℕ) → k ≡ Push → IsWay s past a k r → servent_route s past (push_servent a.packet.payload) ≡ Some r
-push_way s past a k r is way = (subst (λ (k : Kind). IsWay s past a k r) is way).1
+pub push_way : {A : Type 0} (s : Config) (past : List (Step A)) (a : Admission) (k : Kind) (r : ℕ) → k ≡ Push → IsWay s past a (routing_of k) r → servent_route s past (push_servent a.packet.payload) ≡ Some r
+push_way s past a k r is way = (subst (λ (k : Kind). IsWay s past a (routing_of k) r) is way).1
 
-follows : {A : Type 0} (s : Config) (past : List (Step A)) (a : Admission) → a.packet.kind ≡ Push → (decision : Decision) → RestsOn s past a a.packet.kind decision
+follows : {A : Type 0} (s : Config) (past : List (Step A)) (a : Admission) → a.packet.kind ≡ Push → (decision : Decision) → RestsOn s past a (routing_of a.packet.kind) decision
     → (sends_of (decision_reply s past a decision) ≡ []) ⊎ GoesToServent s past a (push_servent a.packet.payload) (sends_of (decision_reply s past a decision))
 follows s past a is (Drop why) rest = inl refl
 follows s past a is Local rest = inl refl

@@ -6,22 +6,24 @@ use Rattle.std.proofs.lemmas.List.{append-nil, map-append}
 use Rattle.std.proofs.lemmas.List.Elements.{filter-append}
 use Rattle.std.proofs.lemmas.List.Sums.{sum_by-append}
 use Rattle.std.proofs.lemmas.Map.Views.{any-filter_same, exact_unsigned_eq}
-use Rattle.gn_wire.specs.declared.kind.Guid.{Guid}
 use Rattle.gn_wire.specs.declared.kind.Kind.{Kind}
-use Rattle.gn_wire.specs.declared.kind.Kind.TheVariants.{Ping, Query}
+use Rattle.gn_wire.specs.declared.kind.Kind.TheVariants.{Unknown}
 use Rattle.gn_wire.specs.Keys.{key_of}
 use Rattle.gn_wire.specs.Packet.{forward_of, is_expired, Packet}
-use Rattle.gn_payload.specs.declared.checked.Verdict.TheVariants.{Sound, Malformed}
-use Rattle.gn_payload.specs.Reading.{has_reading}
+use Rattle.gn_payload.specs.declared.checked.Verdict.TheVariants.{Sound, Malformed, UnknownKind}
+use Rattle.gn_payload.specs.Reading.{has_reading, is_known}
 use Rattle.gn_rules.specs.declared.config.Config.{Config}
 use Rattle.gn_rules.specs.declared.receipt.Step.{Step}
 use Rattle.gn_rules.specs.declared.reply.Reply.{Reply}
 use Rattle.gn_rules.specs.declared.reply.DropReason.TheVariants as reason
+use Rattle.gn_rules.specs.declared.routing.Routing.{Routing}
+use Rattle.gn_rules.specs.declared.routing.Routing.TheVariants.{Floods}
 use Rattle.gn_rules.specs.declared.sends.Sending.{Sending}
 use Rattle.gn_rules.specs.Answer.{decision_reply, is_request, IsLegal}
-use Rattle.gn_rules.specs.Decision.{Drop, Flood, decide, decide_checked}
+use Rattle.gn_rules.specs.Decision.{Drop, Flood, decide, decide_checked, decide_routed}
 use Rattle.gn_rules.specs.Flight.{Admission}
 use Rattle.gn_rules.specs.History.{connected_of, connections, is_at, live, live_connections, sends_of}
+use Rattle.gn_rules.specs.Routings.{does_flood, routing_of}
 use Rattle.gn_rules.specs.Sending.{fanout, flood_sends, is_ping, own_pong, send}
 use Rattle.gn_rules.specs.SeenEntries.{is_remembered}
 use Rattle.gn_rules.proofs.StepLemmas.{is_listed}
@@ -29,7 +31,7 @@ use Rattle.gn_laws.specs.Connections.{connects}
 use Rattle.gn_paths.specs.Sends.{sent_to, spread_to, RequestsSpread}
 use Rattle.gn_laws.proofs.ConnectionLemmas.{connections_count}
 use Rattle.gn_laws.proofs.CountLemmas.{tally, count-cons, count_none, count_some, same_in_both}
-use Rattle.gn_paths.proofs.PathLemmas.{parts_of, routed_as}
+use Rattle.gn_paths.proofs.PathLemmas.{routed_as}
 
 -- how often c is a connection
 connected_times : {A : Type 0} (past : List (Step A)) (c : ℕ) → count_by (λ d. d == c) (connections past) ≡ connects past c
@@ -154,23 +156,27 @@ flood_spreads {A} s past a c legal =
       | false ↦ λ e. refl
     ] refl
 
+-- a request is of a known kind, and floods
+request_known : (kind : Kind) → is_request kind ≡ true → is_known kind ≡ true
+request_known (Unknown code) asks = absurd (cc)
+request_known kind asks = refl
+
+request_floods : (routing : Routing) → does_flood routing ≡ true → routing ≡ Floods
+request_floods Floods asks = refl
+request_floods routing asks = absurd (cc)
+
 -- what becomes of a request, by whether its payload is as its kind asks and whether its key is remembered
-request_decision : {A : Type 0} (s : Config) (past : List (Step A)) (o : ℕ) (id : Guid) (k : Kind) (ttl hops : ℕ) (payload : List ℕ) → is_request k ≡ true
-    → decide s past (parts_of o id k ttl hops payload)
-    ≡ (if has_reading k payload then (if is_remembered s past (record { kind = k; id = id }) then Drop reason.Duplicate else Flood) else Drop reason.Malformed)
-request_decision s past o id Ping ttl hops payload asks =
-    let a = parts_of o id Ping ttl hops payload in
-    elim (has_reading Ping payload) as (λ b. decide_checked s past a (cond b Sound Malformed) ≡ cond b (if is_remembered s past (record { kind = Ping; id = id }) then Drop reason.Duplicate else Flood) (Drop reason.Malformed)) [
-      | true ↦ refl
-      | false ↦ refl
-    ]
-request_decision s past o id Query ttl hops payload asks =
-    let a = parts_of o id Query ttl hops payload in
-    elim (has_reading Query payload) as (λ b. decide_checked s past a (cond b Sound Malformed) ≡ cond b (if is_remembered s past (record { kind = Query; id = id }) then Drop reason.Duplicate else Flood) (Drop reason.Malformed)) [
-      | true ↦ refl
-      | false ↦ refl
-    ]
-request_decision s past o id k ttl hops payload asks = absurd (cc)
+request_decision : {A : Type 0} (s : Config) (past : List (Step A)) (a : Admission) → is_request a.packet.kind ≡ true
+    → decide s past a
+    ≡ (if has_reading a.packet.kind a.packet.payload then (if is_remembered s past (key_of a.packet) then Drop reason.Duplicate else Flood) else Drop reason.Malformed)
+request_decision {A} s past a asks =
+    ap (λ b. decide_checked s past a (if b then (if has_reading a.packet.kind a.packet.payload then Sound else Malformed) else UnknownKind)) (request_known a.packet.kind asks)
+    ∙ by_reading (has_reading a.packet.kind a.packet.payload)
+  where
+    by_reading : (b : Bool) → decide_checked s past a (if b then Sound else Malformed)
+        ≡ (if b then (if is_remembered s past (key_of a.packet) then Drop reason.Duplicate else Flood) else Drop reason.Malformed)
+    by_reading true = ap (decide_routed s past a) (request_floods (routing_of a.packet.kind) asks)
+    by_reading false = refl
 
 -- what such a decision sends to c
 decision_spreads : {A : Type 0} (s : Config) (past : List (Step A)) (a : Admission) (c : ℕ) → IsLegal s past → (sound remembered : Bool)
@@ -183,5 +189,5 @@ decision_spreads s past a c legal false remembered = refl
 pub requests_spread : (A : Type 0) → RequestsSpread A
 requests_spread A s past t reply a c legal e found asks =
     ap (λ (r : Reply A). sent_to c (sends_of r)) (routed_as s past t reply a e found)
-    ∙ ap (λ decision. sent_to c (sends_of (decision_reply s past a decision))) (request_decision s past a.origin a.packet.id a.packet.kind a.packet.ttl a.packet.hops a.packet.payload asks)
+    ∙ ap (λ decision. sent_to c (sends_of (decision_reply s past a decision))) (request_decision s past a asks)
     ∙ decision_spreads s past a c legal (has_reading a.packet.kind a.packet.payload) (is_remembered s past (key_of a.packet))

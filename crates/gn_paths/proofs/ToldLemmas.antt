@@ -1,9 +1,8 @@
 -- Which connection told of the servent of each Push that was queued to it.
-use Rattle.std.proofs.Common.{◌≡◌, ℕ, true, List, [], ◌∷◌, Some, Ok, inl, inr, sym, ap, subst, ◌∙◌}
+use Rattle.std.proofs.Common.{◌≡◌, ℕ, List, [], ◌∷◌, Some, Ok, inl, inr, sym, ap, subst, ◌∙◌}
 use Rattle.std.specs.List.{AllByRecursion, Contains}
 use Rattle.std.proofs.lemmas.List.Elements.{Contains-append_cases}
 use Rattle.gn_wire.specs.declared.kind.Guid.{Guid}
-use Rattle.gn_wire.specs.declared.kind.Kind.{Kind}
 use Rattle.gn_wire.specs.declared.kind.Kind.TheVariants.{Pong, Push}
 use Rattle.gn_wire.specs.Packet.{Packet}
 use Rattle.gn_payload.specs.Fields.{push_servent}
@@ -13,7 +12,7 @@ use Rattle.gn_rules.specs.declared.event.Event.TheVariants.{Connect, Close, Admi
 use Rattle.gn_rules.specs.declared.receipt.Step.{Step}
 use Rattle.gn_rules.specs.declared.reply.Reply.{Reply}
 use Rattle.gn_rules.specs.declared.sends.Sending.{Sending}
-use Rattle.gn_rules.specs.Answer.{answer, is_request, IsLegal}
+use Rattle.gn_rules.specs.Answer.{answer, IsLegal}
 use Rattle.gn_rules.specs.Decision.{decide}
 use Rattle.gn_rules.specs.Flight.{Admission, admission}
 use Rattle.gn_rules.specs.History.{sends_of}
@@ -46,9 +45,6 @@ route_told {A} s past t reply a e found =
     (λ c asks other unexpired push. absurd (push_asks_not a.packet.kind push asks))
     (λ r passes push. hit_admitted past (push_servent a.packet.payload) r (route_known s past (push_servent a.packet.payload) r (push_way s past a a.packet.kind r push passes.way)).came))
 
-own_is_no_push : (k : Kind) → k ≡ Push → is_request k ≡ true → ⊥
-own_is_no_push k is asks = let same : is_request k ≡ is_request Push = ap is_request is in cc
-
 none_told : {A : Type 0} (past : List (Step A)) (sends : List (Sending A)) → sends ≡ [] → AllByRecursion (λ x. WasTold past x) sends
 none_told past sends none = subst (λ xs. AllByRecursion (λ x. WasTold past x) xs) (sym none) tt
 
@@ -58,7 +54,7 @@ step_told {A} s past (Route t) reply e =
     route_told s past t reply was.admitted e was.found
 step_told {A} s past (Originate d) reply e =
     subst (λ (r : Reply A). AllByRecursion (λ x. WasTold past x) (sends_of r)) (sym (answered s past (Originate d) reply e))
-    (fanout_all (λ x. WasTold past x) s past 0 d (λ c other push. absurd (own_is_no_push d.kind push (originate_parts s past d reply e).0)))
+    (fanout_all (λ x. WasTold past x) s past 0 d (λ c other push. absurd (push_asks_not d.kind push (originate_parts s past d reply e).0)))
 step_told s past Connect reply e = none_told past (sends_of reply) (quiet_sends s past Connect reply e tt)
 step_told s past (Close d) reply e = none_told past (sends_of reply) (quiet_sends s past (Close d) reply e tt)
 step_told s past (Admit d packet) reply e = none_told past (sends_of reply) (quiet_sends s past (Admit d packet) reply e tt)

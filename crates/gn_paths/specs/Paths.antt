@@ -9,7 +9,7 @@ use Rattle.std.specs.Option.{option_to_list}
 use Rattle.gn_wire.specs.declared.key.Key.{Key}
 use Rattle.gn_wire.specs.declared.kind.Guid.{Guid}
 use Rattle.gn_wire.specs.declared.kind.Kind.{Kind}
-use Rattle.gn_wire.specs.declared.kind.Kind.TheVariants.{Ping, Pong, Push, Query, QueryHit}
+use Rattle.gn_wire.specs.declared.kind.Kind.TheVariants.{Push, QueryHit}
 use Rattle.gn_wire.specs.Packet.{forward_of, is_expired, Packet}
 use Rattle.gn_wire.specs.Keys.{is_same_id, is_same_key, key_of}
 use Rattle.gn_payload.specs.Fields.{hit_servent, push_servent}
@@ -17,20 +17,26 @@ use Rattle.gn_rules.specs.declared.config.Config.{Config}
 use Rattle.gn_rules.specs.declared.event.Event.TheVariants.{Route}
 use Rattle.gn_rules.specs.declared.receipt.Step.{Step}
 use Rattle.gn_rules.specs.declared.reply.Reply.{Reply}
+use Rattle.gn_rules.specs.declared.routing.Routing.{Routing}
+use Rattle.gn_rules.specs.declared.routing.Routing.TheVariants.{Back}
 use Rattle.gn_rules.specs.declared.sends.Sending.{Sending}
 use Rattle.gn_rules.specs.Answer.{answer}
 use Rattle.gn_rules.specs.Flight.{Admission, admission}
 use Rattle.gn_rules.specs.History.{is_routed_reply, live, sends_of}
+use Rattle.gn_rules.specs.Routings.{routing_of}
 use Rattle.gn_rules.specs.Sending.{send}
 use Rattle.gn_rules.specs.ServentLaw.{others}
 use Rattle.gn_rules.specs.Servents.{hit_of}
 use Rattle.gn_rules.specs.SeenEntries.{entry_of, keeps}
 
+-- the kind of request that a descriptor so routed answers
+abbrev pub asked_kind : Routing → Option Kind
+asked_kind (Back kind) = Some kind
+asked_kind routing = None
+
 -- the kind of request that a descriptor of a kind answers: a Pong a Ping, a Query Hit a Query
 abbrev pub answered_kind : Kind → Option Kind
-answered_kind Pong = Some Ping
-answered_kind QueryHit = Some Query
-answered_kind kind = None
+answered_kind kind = asked_kind (routing_of kind)
 
 -- what was admitted is sent on once and to one connection, which is live and isn't the one that brought it; and it isn't expired
 pub record IsSentBack {A : Type 0} (s : Config) (past : List (Step A)) (a : Admission) (sends : List (Sending A)) : Type 0 where

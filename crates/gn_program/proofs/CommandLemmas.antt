@@ -1,16 +1,15 @@
 -- What is known where words were read as a request, and no request came of it.
-use Rattle.std.proofs.Common.{◌≡◌, ◌∙◌, ◌⊎◌, inl, inr, refl, sym, ℕ, List, [], ◌∷◌, Option, Some}
+use Rattle.std.proofs.Common.{◌≡◌, ◌∙◌, ◌⊎◌, inl, inr, refl, sym, ℕ, List, [], ◌∷◌, Option, None, Some, Result, Ok, Err, IfOk, IfSome, OnOk}
 use Rattle.clap.specs.Kinds.{HasKind, IsAmong, Kinds}
 use Rattle.clap.specs.Words.{Row, Text, kind_of}
 use Rattle.clap.specs.declared.error.Error.{Error}
 use Rattle.clap.specs.declared.error.kind.ErrorKind.{ErrorKind}
 use Rattle.clap.specs.declared.error.kind.ErrorKind.TheVariants.{DisplayHelp, DisplayVersion, OutOfMemory}
-use Rattle.gn_program.specs.Commands.{Does, HasDone, IsTurnedAway, IsUnread}
+use Rattle.gn_program.specs.Commands.{Does, HasDone, IsTurnedAway, IsUnread, kinds_of, request_by, request_of}
 use Rattle.gn_io.specs.Streams.{Streams}
 use Rattle.gn_service.specs.Ran.{Remembered}
 use Rattle.std.specs.declared.alloc.Global.{Global}
-use Rattle.gn_words.specs.Words.{kinds_of, request_by, request_of}
-use Rattle.gn_words.specs.declared.request.Request.{Request}
+use Rattle.gn_program.specs.declared.request.Request.{Request}
 
 memory_by : (kinds : Kinds) (o : Option (Text × List Row)) (r : Request) (k : ErrorKind) → request_by kinds o ≡ Some r
     → (k ≡ OutOfMemory) ⊎ IsAmong k kinds → k ≡ OutOfMemory
@@ -35,3 +34,10 @@ pub forgotten : {U : Type 0} (request : Request) (s : Streams) (status : ℕ) (r
     → U ⊎ Does request s status remembered → U ⊎ HasDone request s status
 forgotten request s status remembered (inl unread) = inl unread
 forgotten request s status remembered (inr done) = inr (remembered, done)
+
+-- where a text was written and counted, both were done
+pub both : {T E : Type 0} (P : List ℕ → Type 0) (Q : T → List ℕ → Type 0) (answer : Result T E) (text : Option (List ℕ)) → OnOk answer (IfSome text P)
+    → IfOk answer (λ value. IfSome text (Q value)) → IfOk answer (λ value. IfSome text (λ t. P t × Q value t))
+both P Q (Ok value) (Some t) p q = (p, q)
+both P Q (Ok value) None p q = tt
+both P Q (Err fault) text p q = tt

@@ -1,2 +1,5 @@
 pub mod CommandLemmas
+mod ConfigLemmas
+mod PageLemmas
 pub mod ServeLemmas
+mod WordLemmas

@@ -19,11 +19,11 @@ use Rattle.gn_load.specs.declared.serve_fault.ServeFault.{ServeFault}
 use Rattle.gn_load.specs.declared.serve_fault.ServeFault.TheVariants.{Run}
 use Rattle.gn_start.specs.Faults.{IsArrivingFault}
 use Rattle.gn_start.specs.declared.fault.RunFault.{RunFault}
-use Rattle.gn_program.specs.Commands.{AppendsAsked, AppendsAskedPart, IsBeside, IsRestBeside, IsServeAnswer, IsServing, IsWritten}
+use Rattle.gn_program.specs.Serves.{AppendsAsked, AppendsAskedPart, IsBeside, IsRestBeside, IsServeAnswer, IsServing, IsWritten}
 use Rattle.gn_program.specs.Limits.{calls_again, goes_on}
 use Rattle.gn_program.specs.Peers.{AreAt}
 use Rattle.gn_service.specs.Ran.{Remembered}
-use Rattle.gn_words.specs.ServeOptions.{AskedServe}
+use Rattle.gn_program.specs.Serve.{AskedServe}
 
 -- a sink to which nothing was written, beside itself
 pub beside_itself : (has : Bool) (sink : SinkState) → IsBeside has sink sink sink

@@ -1,7 +1,6 @@
 -- The fault lines: which one each fault is, and its text, with the line feed.
 use Rattle.std.specs.Prelude.{ℕ, List, ◌++◌, codes, decimal}
-use Rattle.gn_text.specs.declared.fault.Cause.{Cause}
-use Rattle.gn_text.specs.declared.fault.Cause.TheVariants as cause
+use Rattle.gn_numbers.specs.Names.{cause_name}
 use Rattle.gn_replay.specs.declared.fault.ReplayFault.{ReplayFault}
 use Rattle.gn_replay.specs.declared.fault.ReplayFault.TheVariants as replay
 use Rattle.gn_stage.specs.declared.settle.StageFault.TheVariants as stage
@@ -14,24 +13,12 @@ use Rattle.gn_load.specs.declared.serve_fault.ServeFault.TheVariants as serve
 use Rattle.gn_program.specs.declared.fault.Fault.{Fault}
 use Rattle.gn_program.specs.declared.fault.Fault.TheVariants.{Input, InputTooLarge, Line, Output, NoMemory, HistoryFull, Listen, Call, Link, StageMissing, Audit, Workers, NoRandomBytes}
 
--- the word for a cause
-abbrev pub cause_word : Cause → List ℕ
-cause_word cause.Header = codes "header"
-cause_word cause.Config = codes "config"
-cause_word cause.Own = codes "own"
-cause_word cause.Word = codes "word"
-cause_word cause.Fields = codes "fields"
-cause_word cause.Field = codes "field"
-cause_word cause.Link = codes "link"
-cause_word cause.Load = codes "load"
-cause_word cause.End = codes "end"
-
 -- the text of a fault
 abbrev pub fault_text : Fault → List ℕ
 fault_text Input = codes "fault: input failed\n"
 fault_text InputTooLarge = codes "fault: input too large\n"
 fault_text (Line fault) =
-    codes "fault: line " ++ decimal fault.line ++ codes ": " ++ cause_word fault.cause ++ codes "\n"
+    codes "fault: line " ++ decimal fault.line ++ codes ": " ++ cause_name fault.cause ++ codes "\n"
 fault_text Output = codes "fault: output failed\n"
 fault_text NoMemory = codes "fault: no memory\n"
 fault_text HistoryFull = codes "fault: history full\n"

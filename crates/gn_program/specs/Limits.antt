@@ -3,9 +3,9 @@ use Rattle.std.specs.Prelude.{◌≡◌, ◌*◌, ◌||◌, ◌&&◌, ℕ, Bool,
 use Rattle.std.specs.Duration.{as_nanos}
 use Rattle.std.specs.declared.time.Duration.{Duration}
 use Rattle.gn_service.specs.Stopping.{Stopping}
-use Rattle.gn_words.specs.ServeOptions.{AskedServe}
-use Rattle.gn_words.specs.declared.request.Retry.{Retry}
-use Rattle.gn_words.specs.declared.request.Retry.TheVariants.{Never, For, Always}
+use Rattle.gn_program.specs.Serve.{AskedServe}
+use Rattle.gn_words.specs.declared.retrying.Retry.{Retry}
+use Rattle.gn_words.specs.declared.retrying.Retry.TheVariants.{Never, For, Always}
 
 -- a time limit is one of so many seconds, where there is one
 abbrev pub IsLimit : Option ℕ → Option Duration → Type 0

@@ -4,8 +4,8 @@ use Rattle.std.specs.declared.net.socket_addr.SocketAddr.{SocketAddr}
 use Rattle.std.specs.declared.net.socket_addr.SocketAddr.TheVariants.{V4, V6}
 use Rattle.std.specs.Net.Addr.{ipv4_octets}
 use Rattle.std.specs.Net.Socket.{v4_ip, v4_port}
-use Rattle.gn_words.specs.ServeOptions.{AskedServe}
-use Rattle.gn_words.specs.declared.request.Peer.{Peer}
+use Rattle.gn_program.specs.Serve.{AskedServe}
+use Rattle.gn_words.specs.declared.peers.Peer.{Peer}
 
 -- the peer at an address; none at one of the longer form, which no option gives
 abbrev pub peer_at : SocketAddr → Option Peer

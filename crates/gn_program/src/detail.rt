@@ -5,7 +5,6 @@ use crate::text::write_text;
 use gn_io::Sink;
 use gn_rules::Numbers;
 use gn_text::{NumberedLines, Text, fields, is_word, number};
-use gn_words::Request;
 use std::alloc::Global;
 use std::fmt::{Display, Formatter, Write};
 use std::{fmt, str};
@@ -21,23 +20,9 @@ pub(crate) struct Reading {
 }
 
 impl Reading {
-    /// What this command reads, for `of`.
-    fn new(command: &'static str, text: Text) -> Option<Self> {
-        Some(Reading { command, text })
-    }
-
-    /// What is read where this is asked for.
-    pub(crate) fn of(request: &Request) -> Option<Self> {
-        match request {
-            Request::Replay | Request::History => Reading::new("replay", Text::Capture),
-            Request::Load(_) | Request::Watched(_) => Reading::new("load", Text::Capture),
-            Request::Audit | Request::Explain | Request::Unfinished => Reading::new(
-                "audit",
-                Text::History,
-            ),
-            Request::Show(_) => Reading::new("show", Text::History),
-            Request::Serve(_) | Request::Config(_) => None,
-        }
+    /// What a command of this name reads.
+    pub(crate) fn new(command: &'static str, text: Text) -> Self {
+        Reading { command, text }
     }
 }
 

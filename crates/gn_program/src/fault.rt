@@ -1,12 +1,11 @@
 //! The fault lines.
 
 ghost use Rattle.std.specs.Prelude.{◌≡◌};
-ghost use Rattle.gn_program.specs.FaultTexts as texts;
 
 use gn_load::{LoadFault, ServeFault};
 use gn_replay::ReplayFault;
 use gn_stage::StageFault;
-use gn_text::{CaptureFault, Cause};
+use gn_text::{CaptureFault, cause_name};
 use gn_threads::RunFault;
 use std::fmt;
 use std::fmt::{Display, Formatter, Write};
@@ -54,7 +53,7 @@ impl Display for Fault {
             Fault::Input => f.write_str("fault: input failed\n"),
             Fault::InputTooLarge => f.write_str("fault: input too large\n"),
             Fault::Line(CaptureFault { line, cause }) => {
-                writeln!(f, "fault: line {line}: {}", cause_word(*cause))
+                writeln!(f, "fault: line {line}: {}", cause_name(*cause))
             }
             Fault::Output => f.write_str("fault: output failed\n"),
             Fault::NoMemory => f.write_str("fault: no memory\n"),
@@ -128,22 +127,5 @@ impl From<ServeFault> for Fault {
             ServeFault::Run(fault) => Fault::from(fault),
             ServeFault::Write => Fault::Output,
         }
-    }
-}
-
-/// The word of a cause, as fault lines name it.
-fn cause_word(cause: Cause) -> &'static str
-    ensures { result.now ≡ texts.cause_word cause }
-{
-    match cause {
-        Cause::Header => "header",
-        Cause::Config => "config",
-        Cause::Own => "own",
-        Cause::Word => "word",
-        Cause::Fields => "fields",
-        Cause::Field => "field",
-        Cause::Link => "link",
-        Cause::Load => "load",
-        Cause::End => "end",
     }
 }

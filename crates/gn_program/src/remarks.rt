@@ -1,9 +1,9 @@
 //! What a serve says beside its history, as comments: when it was written, and who its neighbours are.
 
 use crate::calls::{Calls, UNSAID};
+use crate::serve::ServeOptions;
 use crate::serves::calls_again;
 use gn_comments::{Commenter, Comments};
-use gn_words::ServeOptions;
 use std::alloc::{AllocError, Global};
 use std::fmt;
 use std::fmt::{Display, Formatter, Write};

@@ -4,19 +4,19 @@ ghost use Rattle.std.specs.Prelude.{◌≡◌, ℕ, List, None, is_some, true};
 ghost use Rattle.gn_comments.specs.Rests.{HasWrittenRest, with_all};
 ghost use Rattle.gn_io.specs.Streams.{SinkState};
 ghost use Rattle.gn_load.specs.Any.{IsJournalledTaken};
-ghost use Rattle.gn_program.specs.Commands.{IsRestBeside};
+ghost use Rattle.gn_program.specs.Serves.{IsRestBeside};
 
 use crate::before::{Before, Reread};
 use crate::calls::Calls;
 use crate::remarks::Remarks;
+use crate::serve::ServeOptions;
 use crate::told::Told;
 use gn_comments::{Commented, Continued, Lent, Naming};
 use gn_io::{ReaderSource, Sink, Source};
 use gn_links::Watch;
 use gn_load::{ServeHalted, Taken, Taking, serve_resumed};
-use gn_metrics::{Desk, Metered, Meters, Names};
+use gn_metrics::{Desk, Metered, Meters};
 use gn_service::{Host, Parting, Ran, Serve};
-use gn_words::ServeOptions;
 use std::alloc::Global;
 use std::io::StdinLock;
 use std::marker::{Brand, PhantomData};
@@ -29,7 +29,6 @@ struct Resuming<'a, 's, G, T, S> {
     serving: &'a ServeOptions,
     past: Before<'a, S>,
     reread: &'a Reread,
-    names: Option<&'a Names>,
     meters: &'a Meters,
 }
 
@@ -128,7 +127,7 @@ impl<'a, 's, G: Watch + Sync, T: Parting<Global> + Sync, S: Source + Send + Drop
             × IsJournalledTaken true s.accept.again (is_some s.accept.pings) s.batch s.config.now s.peers.now None
             s.workers (W.state lent.entry.sink.now) all result.0 }
     {
-        let mut metered = Metered::<B, W>::new(lent, self.names, self.meters);
+        let mut metered = Metered::<B, W>::new(lent, self.meters);
         let answer = self.run_remarked(rt, &mut metered);
         (answer, metered.into_inner())
     }
@@ -139,7 +138,6 @@ impl<'a, 's, G: Watch + Sync, T: Parting<Global> + Sync, S: Source + Send + Drop
         rt: &R,
         lent: Lent<'w, W>,
         desk: &Desk,
-        names: &Names,
     ) -> (Result<(Taken<'s>, Ran), ServeHalted>, Lent<'w, W>)
         requires named { lent.sink.ghost_name ≡ B.sink }
         ensures here { result.1.sink.ghost_name ≡ lent.entry.sink.ghost_name }
@@ -158,7 +156,6 @@ impl<'a, 's, G: Watch + Sync, T: Parting<Global> + Sync, S: Source + Send + Drop
         desk.beside(
             rt,
             alloc,
-            names,
             meters,
             move ||
                 ensures here { result.1.sink.ghost_name ≡ writing.entry.lent.sink.ghost_name }
@@ -184,9 +181,9 @@ impl<'a, 's, G: Watch + Sync, T: Parting<Global> + Sync, S: Source + Send + Drop
             × IsJournalledTaken true s.accept.again (is_some s.accept.pings) s.batch s.config.now s.peers.now None
             s.workers (W.state lent.entry.sink.now) all result.0 }
     {
-        match (desk, self.names) {
-            (Some(desk), Some(names)) => self.run_beside::<B, R, W>(rt, lent, desk, names),
-            _ => self.run_metered::<B, R, W>(rt, lent),
+        match desk {
+            Some(desk) => self.run_beside::<B, R, W>(rt, lent, desk),
+            None => self.run_metered::<B, R, W>(rt, lent),
         }
     }
 
@@ -248,20 +245,8 @@ impl<
     }
 }
 
-/// The names of the counts, and where these are asked for: nowhere, where there is no memory for their names.
-fn names_of(alloc: Global, desk: Option<&Desk>) -> (Option<Names>, Option<&Desk>) {
-    if let Ok(names) = Names::new(alloc) {
-        return (Some(names), desk);
-    }
-    if let Some(desk) = desk {
-        desk.close();
-    }
-    (None, None)
-}
-
-/// Runs a router that goes on with the history that standard input gives, and keeps what becomes known of that. Its counts have these names.
+/// Runs a router that goes on with the history that standard input gives, and keeps what becomes known of that.
 fn go_on<
-    'a,
     's,
     R: Host + Input<Reader = StdinLock<'static>>,
     G: Watch + Sync,
@@ -270,13 +255,12 @@ fn go_on<
 >(
     rt: &R,
     alloc: Global,
-    serve: &'a Serve<'a, 's, Calls<'a, G>, Taking<'a, T>>,
-    serving: &'a ServeOptions,
+    serve: &Serve<'_, 's, Calls<'_, G>, Taking<'_, T>>,
+    serving: &ServeOptions,
     writer: &mut W,
     desk: Option<&Desk>,
-    reread: &'a Reread,
-    names: Option<&'a Names>,
-    meters: &'a Meters,
+    reread: &Reread,
+    meters: &Meters,
 ) -> Result<(Taken<'s>, Ran), ServeHalted>
     ensures { let s = serve.now in (all : SinkState)
         × IsRestBeside (W.state writer.old) all (W.state writer.new)
@@ -290,7 +274,6 @@ fn go_on<
         serving,
         past: Before::new(alloc, serve.config, source, reread, meters),
         reread,
-        names,
         meters,
     };
     resuming.run(rt, desk, writer)
@@ -318,24 +301,13 @@ pub(crate) fn resume<
         × IsJournalledTaken true s.accept.again (is_some s.accept.pings) s.batch s.config.now s.peers.now None
         s.workers (W.state writer.old) all result }
 {
-    let (names, desk) = names_of(alloc, desk);
     let own = Meters::new(rt, serving.numbers.steps);
     let meters = match serve.watch.meters() {
         Some(meters) => meters,
         None => &own,
     };
     let reread = Reread::new();
-    let answer = go_on(
-        rt,
-        alloc,
-        serve,
-        serving,
-        writer,
-        desk,
-        &reread,
-        names.as_ref(),
-        meters,
-    );
+    let answer = go_on(rt, alloc, serve, serving, writer, desk, &reread, meters);
     if let Some(misfit) = reread.misfit() {
         *told = Told::Before(misfit);
     }

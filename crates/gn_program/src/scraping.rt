@@ -3,20 +3,20 @@
 ghost use Rattle.std.specs.Prelude.{◌≡◌, ◌+◌, ◌≤◌, ◌∷◌, [], Some, false, is_some, length, unwrap_or};
 ghost use Rattle.gn_io.specs.Streams.{SinkState};
 ghost use Rattle.gn_load.specs.Any.{IsJournalledTaken};
-ghost use Rattle.gn_program.specs.Commands.{IsBeside, has_comments};
+ghost use Rattle.gn_program.specs.Serves.{IsBeside, has_comments};
 ghost use Rattle.gn_program.specs.Peers.{peer_at};
 ghost use Rattle.gn_rules.specs.Limits.{most_links};
 
 use crate::calls::Calls;
+use crate::serve::ServeOptions;
 use crate::serves::{here, listen, run};
 use crate::told::Told;
 use gn_comments::{Lent, Naming};
 use gn_io::Sink;
 use gn_links::{LinkFault, Watch};
 use gn_load::{ServeHalted, Taken, Taking};
-use gn_metrics::{Desk, Metered, Meters, Names};
+use gn_metrics::{Desk, Metered, Meters};
 use gn_service::{Host, Parting, Ran, Serve};
-use gn_words::ServeOptions;
 use std::alloc::Global;
 use std::hash::RandomState;
 use std::marker::{Brand, PhantomData};
@@ -24,11 +24,10 @@ use std::net::{Ipv4Addr, Net, SocketAddr, SocketAddrV4, TcpListener, TcpStream};
 use std::random::RandomSource;
 use std::time::Clock;
 
-/// Where the counts of a run are asked for, the names under which they are, and what is counted.
+/// Where the counts of a run are asked for, and what is counted.
 #[derive(Clone, Copy)]
 struct Scraped<'a> {
     desk: &'a Desk,
-    names: &'a Names,
     meters: &'a Meters,
 }
 
@@ -115,7 +114,7 @@ impl<
             scraped,
             ..
         } = self;
-        let mut metered = Metered::<B, W>::new(lent, Some(scraped.names), scraped.meters);
+        let mut metered = Metered::<B, W>::new(lent, scraped.meters);
         let answer = run(rt, alloc, serve, serving, &mut metered);
         (answer, metered.into_inner())
     }
@@ -155,15 +154,10 @@ fn run_beside<
         scraped,
         of: PhantomData::<B>,
     };
-    let Scraped {
-        desk,
-        names,
-        meters,
-    } = scraped;
+    let Scraped { desk, meters } = scraped;
     desk.beside(
         rt,
         alloc,
-        names,
         meters,
         move ||
             ensures here { result.1.sink.ghost_name ≡ counted.entry.lent.sink.ghost_name }
@@ -176,8 +170,7 @@ fn run_beside<
     )
 }
 
-/// Runs the router, and writes its history while it runs, as `run` does; where the counts are asked for, who asks is answered beside it. Where
-/// there is no memory for their names nobody is, and who calls is refused.
+/// Runs the router, and writes its history while it runs, as `run` does; where the counts are asked for, who asks is answered beside it.
 pub(crate) fn run_scraped<'s, R: Host, G: Watch + Sync, T: Parting<Global> + Sync, W: Sink + Send>(
     rt: &R,
     alloc: Global,
@@ -195,15 +188,7 @@ pub(crate) fn run_scraped<'s, R: Host, G: Watch + Sync, T: Parting<Global> + Syn
     let (Some(desk), Some(meters)) = (desk, serve.watch.meters()) else {
         return run(rt, alloc, serve, serving, writer);
     };
-    let Ok(names) = Names::new(alloc) else {
-        desk.close();
-        return run(rt, alloc, serve, serving, writer);
-    };
-    let scraped = Scraped {
-        desk,
-        names: &names,
-        meters,
-    };
+    let scraped = Scraped { desk, meters };
     let lent = Lent { sink: writer };
     let (answer, Lent { sink: _sink }) = run_beside::<Brand, R, G, T, W>(
         rt, alloc, serve, serving, lent, scraped,

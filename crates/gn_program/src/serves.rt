@@ -1,18 +1,18 @@
 //! A router that serves, as a command line asks for it.
 
-ghost use Rattle.std.specs.Prelude.{◌≡◌, ◌*◌, ◌+◌, ◌<◌, ◌≤◌, ℕ, List, None, false, is_some, length, unwrap_or, IfNone, IfOk, IfSome};
+ghost use Rattle.std.specs.Prelude.{◌≡◌, ◌*◌, ◌+◌, ◌<◌, ◌≤◌, ℕ, List, None, false, is_some, length, true, unwrap_or, IfNone, IfOk, IfSome};
 ghost use Rattle.std.specs.Option.{IsSomeAnd};
 ghost use Rattle.std.specs.Bool.{then_some};
 ghost use Rattle.std.specs.Duration.{as_nanos};
 ghost use Rattle.gn_comments.specs.Sinks.{HasWrittenBoth, without_comments};
 ghost use Rattle.gn_io.specs.Streams.{SinkState};
 ghost use Rattle.gn_load.specs.Any.{IsJournalledTaken};
-ghost use Rattle.gn_program.specs.Commands.{HasServed, IsBeside, IsIdOf, IsServing, IsWritten, has_comments};
+ghost use Rattle.gn_program.specs.Serves.{HasServed, IsBeside, IsIdOf, IsServing, IsWritten, has_comments};
 ghost use Rattle.gn_program.specs.Limits.{IsLimit, IsStopOf, calls_again, goes_on, may_stop, seconds_of};
 ghost use Rattle.gn_program.specs.Peers.{AreAt, IsHere};
 ghost use Rattle.gn_rules.specs.Limits.{most_links};
 ghost use Rattle.gn_words.specs.Options.{calls_far};
-ghost use Rattle.gn_words.specs.declared.request.Servent.TheVariants.{Random};
+ghost use Rattle.gn_words.specs.declared.servent.Servent.TheVariants.{Random};
 
 use crate::calls::Calls;
 use crate::eof::stop_at_eof;
@@ -21,6 +21,7 @@ use crate::remarks::Remarks;
 use crate::reports::{write_account, write_stats, write_stopped};
 use crate::resumes::resume;
 use crate::scraping::{listen_both, run_scraped};
+use crate::serve::ServeOptions;
 use crate::text::write_text;
 use crate::told::Told;
 use gn_comments::{Commented, Lent, Naming};
@@ -34,7 +35,7 @@ use gn_service::{Batch, Host, Parting, Pings, Ran, Serve, Serving, Stop, TcpRead
 use gn_tcp::Unmet;
 use gn_threads::RunFault;
 use gn_wire::Guid;
-use gn_words::{Peer, Retry, ServeOptions, Servent};
+use gn_words::{Peer, Retry, Servent};
 use std::alloc::{AllocError, Global};
 use std::fmt;
 use std::fmt::{Display, Formatter, Write};
@@ -85,10 +86,7 @@ fn settings(serving: &ServeOptions, id: Guid) -> Config
         files: serving.files,
         kbytes: serving.kilobytes,
     };
-    match Config::of(serving.numbers, own) {
-        Ok(config) => config,
-        Err(_) => unreachable!(),
-    }
+    Config::with(serving.numbers, own)
 }
 
 /// The addresses of peers, in order.
@@ -135,15 +133,14 @@ fn may_stop(serving: &ServeOptions) -> bool
     serving.seconds.is_some() || serving.early || serving.until_eof
 }
 
-/// How long the router goes on and waits for its peers, and how long one may flood it, whether its history is kept, and whether it calls
-/// other machines.
+/// How long the router goes on and waits for its peers, and how long one may flood it, and whether it calls other machines.
 fn limits<'s>(serving: &ServeOptions, stop: &'s Stop) -> Serving<'s>
     ensures idle { IsLimit serving.now.idle result.idle }
     ensures retry { IsLimit (seconds_of serving.now.retry) result.retry }
     ensures flood { IsLimit serving.now.flood result.flood }
     ensures grace { IsSomeAnd result.grace (λ time. as_nanos time ≡ serving.now.grace * 1_000_000_000) }
     ensures stop { result.stop ≡ then_some (may_stop serving.now) stop.entry }
-    ensures kept { result.is_kept ≡ serving.now.keeps }
+    ensures kept { result.is_kept ≡ true }
     ensures far { result.calls_far ≡ calls_far serving.now.site }
 {
     Serving {
@@ -152,7 +149,7 @@ fn limits<'s>(serving: &ServeOptions, stop: &'s Stop) -> Serving<'s>
         grace: Some(Duration::from_secs(serving.grace as u64)),
         flood: limit(serving.flood),
         stop: may_stop(serving).then_some(stop),
-        is_kept: serving.keeps,
+        is_kept: true,
         calls_far: serving.site.calls_far(),
     }
 }

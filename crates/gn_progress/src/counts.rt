@@ -126,7 +126,7 @@ impl Counts {
     pub(crate) fn add_made(&self, place: Place, step: Made) {
         let count = match step {
             Made::Admitted(_) => &self.admitted,
-            Made::Busy | Made::Crowded => &self.busy,
+            Made::Refused { .. } => &self.busy,
             Made::Routed => {
                 self.routed.fetch_add(1, Ordering::SeqCst);
                 return;

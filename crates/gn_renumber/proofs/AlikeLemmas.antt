@@ -10,10 +10,10 @@ use Rattle.gn_wire.specs.Packet.{Packet}
 use Rattle.gn_payload.specs.Fields.{hit_servent}
 use Rattle.gn_rules.specs.declared.config.Config.{Config}
 use Rattle.gn_rules.specs.declared.event.Event.{Event}
-use Rattle.gn_rules.specs.declared.event.Event.TheVariants.{Admit, Close, Connect, Originate, Route, Take}
+use Rattle.gn_rules.specs.declared.event.Event.TheVariants.{Route}
 use Rattle.gn_rules.specs.declared.receipt.Step.{Step}
 use Rattle.gn_rules.specs.declared.reply.Reply.{Reply}
-use Rattle.gn_rules.specs.declared.reply.Reply.TheVariants.{Admitted, Busy, Closed, Connected, Crowded, Dropped, Routed, Sent, Taken, TooMany}
+use Rattle.gn_rules.specs.declared.reply.Reply.TheVariants.{Routed}
 use Rattle.gn_rules.specs.Flight.{Admission, admission, admission_of, flying, flying_from, in_flight, is_routed, tickets}
 use Rattle.gn_rules.specs.History.{admitted_of, connected_of, connections, is_at, is_close, is_take, live, live_connections, sends_of, ticket_of}
 use Rattle.gn_rules.specs.Output.{out, queued_to}
@@ -36,28 +36,11 @@ pub record ReadAlike {A : Type 0} (p q : List (Step A)) : Type 0 where
 module _ {A : Type 0} where
   entry_alike : (p q : List (Step A)) → ((t : ℕ) → admission p t ≡ admission q t) → (event : Event A) (reply : Reply A) → entry_of p event reply ≡ entry_of q event reply
   entry_alike p q same (Route t) reply = ap (option_and_then (λ (a : Admission). cond (keeps a.packet.kind reply) (Some (key_of a.packet, a.origin)) None)) (same t)
-  entry_alike p q same (Originate d) reply = refl
-  entry_alike p q same Connect reply = refl
-  entry_alike p q same (Close c) reply = refl
-  entry_alike p q same (Admit c d) reply = refl
-  entry_alike p q same (Take c) reply = refl
+  entry_alike p q same event reply = refl
 
   hit_alike : (p q : List (Step A)) → ((t : ℕ) → admission p t ≡ admission q t) → (event : Event A) (reply : Reply A) → hit_of p event reply ≡ hit_of q event reply
   hit_alike p q same (Route t) (Routed sends local) = ap (option_and_then (λ (a : Admission). cond (is_query_hit a.packet.kind) (Some (hit_servent a.packet.payload, a.origin)) None)) (same t)
-  hit_alike p q same (Route t) (Connected c) = refl
-  hit_alike p q same (Route t) TooMany = refl
-  hit_alike p q same (Route t) (Closed n) = refl
-  hit_alike p q same (Route t) (Admitted n) = refl
-  hit_alike p q same (Route t) Busy = refl
-  hit_alike p q same (Route t) Crowded = refl
-  hit_alike p q same (Route t) (Dropped why) = refl
-  hit_alike p q same (Route t) (Taken packet) = refl
-  hit_alike p q same (Route t) (Sent sends) = refl
-  hit_alike p q same Connect reply = refl
-  hit_alike p q same (Close c) reply = refl
-  hit_alike p q same (Admit c d) reply = refl
-  hit_alike p q same (Take c) reply = refl
-  hit_alike p q same (Originate d) reply = refl
+  hit_alike p q same event reply = refl
 
   -- one step more, of the same event and reply
   step_alike : (x y : Step A) (p q : List (Step A)) → x.event ≡ y.event → x.reply ≡ y.reply → ReadAlike p q → ReadAlike (x ∷ p) (y ∷ q)

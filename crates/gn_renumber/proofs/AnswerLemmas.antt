@@ -2,8 +2,6 @@
 use Rattle.std.proofs.Common.{◌≡◌, ◌+◌, ◌==◌, ◌&&◌, not, cond, nat_lt, ℕ, true, false, List, [], ◌∷◌, ◌++◌, length, filter, map, Option, Some, None, is_some, Result, Ok, Err, refl, ap, ◌∙◌}
 use mathlib.Core.Path.{fun_ext}
 use Rattle.std.specs.Option.{ok_or, option_map, option_map_or}
-use Rattle.gn_wire.specs.declared.kind.Kind.{Kind}
-use Rattle.gn_wire.specs.declared.kind.Kind.TheVariants.{Ping, Pong, Push, Query, QueryHit, Unknown}
 use Rattle.gn_wire.specs.declared.kind.Guid.{Guid}
 use Rattle.gn_wire.specs.declared.key.Key.{Key}
 use Rattle.gn_wire.specs.Keys.{is_same_id, key_of}
@@ -21,12 +19,15 @@ use Rattle.gn_rules.specs.declared.refusal.Refusal.TheVariants.{HistoryFull, NoT
 use Rattle.gn_rules.specs.declared.reply.DropReason.TheVariants as reason
 use Rattle.gn_rules.specs.declared.reply.Reply.{Reply}
 use Rattle.gn_rules.specs.declared.reply.Reply.TheVariants.{Routed}
+use Rattle.gn_rules.specs.declared.routing.Routing.{Routing}
+use Rattle.gn_rules.specs.declared.routing.Routing.TheVariants.{Back, Floods, Pushed, Unnamed}
 use Rattle.gn_rules.specs.declared.sends.Sending.{Sending}
 use Rattle.gn_rules.specs.Answer.{answer, decision_reply, event_answer}
-use Rattle.gn_rules.specs.Decision.{Decision, Drop, Flood, Forward, Local, checks, decide, decide_checked, decide_reply, decide_sound}
+use Rattle.gn_rules.specs.Decision.{Decision, Drop, Flood, Forward, Local, checks, decide, decide_checked, decide_reply, decide_routed}
 use Rattle.gn_rules.specs.Flight.{Admission, in_flight}
 use Rattle.gn_rules.specs.History.{live, live_connections}
 use Rattle.gn_rules.specs.Output.{out}
+use Rattle.gn_rules.specs.Routings.{routing_of}
 use Rattle.gn_rules.specs.SeenEntries.{is_remembered, source}
 use Rattle.gn_rules.specs.Sending.{fanout, flood_sends, is_ping, own_pong, send}
 use Rattle.gn_rules.specs.Servents.{servent_route}
@@ -65,23 +66,21 @@ module _ {A : Type 0} (s : Config) (p q : List (Step A)) (h : ReadAlike p q) whe
   pushed_alike a None = refl
   pushed_alike a (Some r) = checks_alike a r
 
-  sound_alike : (a : Admission) (kind : Kind) → decide_sound s p a kind ≡ decide_sound s q a kind
-  sound_alike a Ping = ap (λ b. cond b (Drop reason.Duplicate) Flood) (known_alike (key_of a.packet))
-  sound_alike a Query = ap (λ b. cond b (Drop reason.Duplicate) Flood) (known_alike (key_of a.packet))
-  sound_alike a Pong = let key : Key = record { kind = Ping; id = a.packet.id } in ap (decide_reply s p a) (source_here p q h s key) ∙ back_alike a (source s q key)
-  sound_alike a QueryHit = let key : Key = record { kind = Query; id = a.packet.id } in ap (decide_reply s p a) (source_here p q h s key) ∙ back_alike a (source s q key)
-  sound_alike a Push =
+  passed_alike : (a : Admission) (routing : Routing) → decide_routed s p a routing ≡ decide_routed s q a routing
+  passed_alike a Floods = ap (λ b. cond b (Drop reason.Duplicate) Flood) (known_alike (key_of a.packet))
+  passed_alike a (Back kind) = let key : Key = record { kind = kind; id = a.packet.id } in ap (decide_reply s p a) (source_here p q h s key) ∙ back_alike a (source s q key)
+  passed_alike a Pushed =
       let servent : Guid = push_servent a.packet.payload in
       let route : Decision = option_map_or (checks s p a) (servent_route s p servent) (Drop reason.NoRoute) in
       ap (λ b. cond b (Drop reason.Duplicate) (cond (is_same_id servent s.own.servent) Local route)) (known_alike (key_of a.packet))
       ∙ ap (λ (d : Decision). cond (is_remembered s q (key_of a.packet)) (Drop reason.Duplicate) (cond (is_same_id servent s.own.servent) Local d))
       (ap (λ (o : Option ℕ). option_map_or (checks s p a) o (Drop reason.NoRoute)) (servent_here p q h s servent) ∙ pushed_alike a (servent_route s q servent))
-  sound_alike a (Unknown code) = refl
+  passed_alike a Unnamed = refl
 
   checked_alike : (a : Admission) (verdict : Verdict) → decide_checked s p a verdict ≡ decide_checked s q a verdict
   checked_alike a UnknownKind = refl
   checked_alike a Malformed = refl
-  checked_alike a Sound = sound_alike a a.packet.kind
+  checked_alike a Sound = passed_alike a (routing_of a.packet.kind)
 
   made_alike : (a : Admission) (d : Decision) → decision_reply {A = A} s p a d ≡ decision_reply s q a d
   made_alike a (Drop why) = refl

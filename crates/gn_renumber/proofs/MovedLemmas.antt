@@ -11,6 +11,7 @@ use Rattle.gn_rules.specs.Answer.{IsLegal}
 use Rattle.gn_rules.specs.Flight.{flying}
 use Rattle.gn_rules.specs.History.{is_close, mine, mine_from}
 use Rattle.gn_rules.specs.Statistics.{counter_of, raised, stats_of}
+use Rattle.gn_rules.proofs.CounterLemmas.{stats_more}
 use Rattle.gn_renumber.specs.Moved.{AreAlike, MovedIsAlike, MovedIsLegal, moved}
 use Rattle.gn_renumber.proofs.AlikeLemmas.{flying_all, moved_reads}
 use Rattle.gn_renumber.proofs.AnswerLemmas.{answer_alike}
@@ -42,7 +43,10 @@ module _ {A : Type 0} (number : ℕ → ℕ) where
 
   stats_moved : (past : List (Step A)) → stats_of (moved number past) ≡ stats_of past
   stats_moved [] = refl
-  stats_moved (step ∷ earlier) = ap (raised (counter_of step.reply)) (stats_moved earlier)
+  stats_moved (step ∷ earlier) =
+      stats_more {A = A} (record step { actor = number step.actor }) (moved number earlier)
+      ∙ ap (raised (counter_of step.reply)) (stats_moved earlier)
+      ∙ sym (stats_more step earlier)
 
   alike_moved : (steps : List (Step A)) → AreAlike steps (moved number steps)
   alike_moved steps =

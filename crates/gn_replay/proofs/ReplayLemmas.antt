@@ -22,7 +22,7 @@ use Rattle.gn_replay.specs.Runs.{HasPrinted, HasRun, IsPlayFault}
 use Rattle.gn_replay.specs.Playing.{refused_more}
 use Rattle.gn_replay.specs.declared.form.Form.TheVariants.{Steps}
 use Rattle.gn_text.specs.Header.{header_text}
-use Rattle.gn_text.specs.declared.title.Text.TheVariants.{History}
+use Rattle.gn_numbers.specs.declared.titles.Text.TheVariants.{History}
 use Rattle.gn_replay.proofs.LinesLemmas.{lines_are}
 
 -- what replay does with a capture that was read

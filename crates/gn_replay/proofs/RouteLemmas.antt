@@ -5,22 +5,22 @@ use Rattle.std.specs.Option.{option_to_list}
 use Rattle.std.proofs.lemmas.Bool.Decides.{nat_tests}
 use Rattle.std.proofs.lemmas.List.{length-reverse, reverse-append}
 use Rattle.std.proofs.lemmas.List.Elements.{filter-append}
+use Rattle.std.proofs.lemmas.List.Sums.{sum_by-cons}
 use Rattle.gn_rules.specs.declared.config.Config.{Config}
 use Rattle.gn_rules.specs.declared.event.Event.{Event}
 use Rattle.gn_rules.specs.declared.event.Event.TheVariants.{Connect, Close, Admit, Route, Take, Originate}
 use Rattle.gn_rules.specs.declared.receipt.Step.{Step}
 use Rattle.gn_rules.specs.declared.refusal.Refusal.{Refusal}
 use Rattle.gn_rules.specs.declared.refusal.Refusal.TheVariants.{HistoryFull, NoTicket}
-use Rattle.gn_rules.specs.declared.reply.DropReason.{DropReason}
-use Rattle.gn_rules.specs.declared.reply.DropReason.TheVariants.{UnknownKind, Malformed, Duplicate, NoRoute, RouteGone, BackToSender, Expired}
+use Rattle.gn_rules.specs.declared.reply.DropReason.TheVariants.{UnknownKind}
 use Rattle.gn_rules.specs.declared.reply.Reply.{Reply}
-use Rattle.gn_rules.specs.declared.reply.Reply.TheVariants.{Connected, TooMany, Closed, Admitted, Busy, Crowded, Routed, Dropped, Taken, Sent}
-use Rattle.gn_rules.specs.declared.statistics.Stats.{Stats}
+use Rattle.gn_rules.specs.declared.reply.Reply.TheVariants.{Admitted, Dropped}
+use Rattle.gn_rules.specs.declared.statistics.Counter.TheVariants as counter
 use Rattle.gn_rules.specs.Answer.{answer, decision_reply, event_answer, IsLegal}
 use Rattle.gn_rules.specs.Decision.{decide}
 use Rattle.gn_rules.specs.Flight.{Admission, admission, admission_of, flying, in_flight, is_routed, tickets}
 use Rattle.gn_rules.specs.History.{admitted_of, is_at}
-use Rattle.gn_rules.specs.Statistics.{counter_of, raised, stats_of}
+use Rattle.gn_rules.specs.Statistics.{count_in, counter_of, is_same_counter, stats_of}
 use Rattle.gn_rules.proofs.AnswerLemmas.{answered, routed_reply}
 use Rattle.gn_rules.proofs.FlightLemmas.{gives_next, moves_tickets}
 use Rattle.gn_text.specs.Refusals.{refusal_text}
@@ -215,29 +215,20 @@ finding_all past next found so_far all =
 pub finding_none : {A : Type 0} (past : List (Step A)) (next : ℕ) (found : List ℕ) → IsFinding past next found → next ≡ 0 → reverse found ≡ flying past
 finding_none past next found so_far none = sym (so_far.flying_is ∙ ap (λ n. below (is_unrouted past) n ++ reverse found) none)
 
-dropped_admitted : (A : Type 0) (reason : DropReason) (n : Stats) → (raised (counter_of {A = A} (Dropped reason)) n).admitted ≡ n.admitted
-dropped_admitted A UnknownKind n = refl
-dropped_admitted A Malformed n = refl
-dropped_admitted A Duplicate n = refl
-dropped_admitted A NoRoute n = refl
-dropped_admitted A RouteGone n = refl
-dropped_admitted A BackToSender n = refl
-dropped_admitted A Expired n = refl
+-- a reply counts as admitted where it gives a ticket
+one_admitted : {A : Type 0} (reply : Reply A) → cond (is_same_counter (counter_of reply) counter.Admitted) 1 0 ≡ length (option_to_list (admitted_of reply))
+one_admitted (Admitted t) = refl
+one_admitted (Dropped UnknownKind) = refl
+one_admitted (Dropped why) = refl
+one_admitted reply = refl
 
-raised_admitted : {A : Type 0} (reply : Reply A) (n : Stats) → (raised (counter_of reply) n).admitted ≡ n.admitted + length (option_to_list (admitted_of reply))
-raised_admitted (Connected c) n = omega arith
-raised_admitted TooMany n = omega arith
-raised_admitted (Closed count) n = omega arith
-raised_admitted (Admitted t) n = omega arith
-raised_admitted Busy n = omega arith
-raised_admitted Crowded n = omega arith
-raised_admitted (Routed sends local) n = omega arith
-raised_admitted {A} (Dropped reason) n = dropped_admitted A reason n ∙ omega arith
-raised_admitted (Taken packet) n = omega arith
-raised_admitted (Sent sends) n = omega arith
+-- one step more counts as its reply does
+counted_more : {A : Type 0} (step : Step A) (past : List (Step A))
+    → count_in counter.Admitted (stats_of (step ∷ past)) ≡ cond (is_same_counter (counter_of step.reply) counter.Admitted) 1 0 + count_in counter.Admitted (stats_of past)
+counted_more {A} step past = sum_by-cons (λ (step : Step A). cond (is_same_counter (counter_of step.reply) counter.Admitted) 1 0) step past
 
 -- as many were admitted as tickets were given
-pub admitted_counted : {A : Type 0} (past : List (Step A)) → (stats_of past).admitted ≡ length (tickets past)
+pub admitted_counted : {A : Type 0} (past : List (Step A)) → count_in counter.Admitted (stats_of past) ≡ length (tickets past)
 admitted_counted [] = refl
 admitted_counted (step ∷ past) =
-    omega (arith, raised_admitted step.reply (stats_of past), admitted_counted past, length-append (tickets past) (option_to_list (admitted_of step.reply)))
+    omega (arith, counted_more step past, one_admitted step.reply, admitted_counted past, length-append (tickets past) (option_to_list (admitted_of step.reply)))

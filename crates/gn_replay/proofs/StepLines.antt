@@ -5,11 +5,11 @@ use Rattle.std.specs.List.{slice_get}
 use Rattle.gn_rules.specs.declared.config.Own.{Own}
 use Rattle.gn_rules.specs.declared.receipt.Step.{Step}
 use Rattle.gn_text.specs.declared.fault.CaptureFault.{CaptureFault}
-use Rattle.gn_text.specs.declared.fault.Cause.TheVariants as cause
-use Rattle.gn_text.specs.declared.title.Text.{Text}
-use Rattle.gn_text.specs.declared.title.Text.TheVariants.{History}
+use Rattle.gn_numbers.specs.declared.causes.Cause.TheVariants as cause
+use Rattle.gn_numbers.specs.declared.titles.Text.{Text}
+use Rattle.gn_numbers.specs.declared.titles.Text.TheVariants.{History}
 use Rattle.gn_numbers.specs.declared.version.Version.{Version}
-use Rattle.gn_text.specs.Titles.{version_of}
+use Rattle.gn_numbers.specs.Names.{version_of}
 use Rattle.gn_text.specs.Faults.{numbered_at, ◌>>=◌}
 use Rattle.gn_text.specs.Header.{config_from, header_of, own_from}
 use Rattle.gn_text.specs.Lines.{fields_of, is_word}

@@ -13,7 +13,7 @@ use Rattle.gn_io.specs.declared.input.InputFault.TheVariants.{Read, TooLarge}
 use Rattle.gn_io.specs.declared.input.InputFault.TheVariants as input
 use Rattle.gn_text.specs.declared.fault.CaptureRefusal.{CaptureRefusal}
 use Rattle.gn_text.specs.declared.fault.CaptureRefusal.TheVariants.{Fault, NoMemory}
-use Rattle.gn_text.specs.declared.title.Text.TheVariants.{History}
+use Rattle.gn_numbers.specs.declared.titles.Text.TheVariants.{History}
 use Rattle.gn_text.specs.Faults.{IsRefused}
 use Rattle.gn_text.specs.Header.{header_of}
 use Rattle.gn_text.specs.Settings.{settings_of}

@@ -12,7 +12,7 @@ use Rattle.gn_rules.specs.declared.reply.Reply.{Reply}
 use Rattle.gn_rules.specs.Answer.{answer, IsLegal}
 use Rattle.gn_rules.specs.Legality.{IsFirstWrong}
 use Rattle.gn_text.specs.declared.fault.CaptureFault.{CaptureFault}
-use Rattle.gn_text.specs.declared.title.Text.TheVariants.{History}
+use Rattle.gn_numbers.specs.declared.titles.Text.TheVariants.{History}
 use Rattle.gn_text.specs.Faults.{IsRefused, ◌>>=◌}
 use Rattle.gn_text.specs.Header.{header_of}
 use Rattle.gn_text.specs.Settings.{settings_of}

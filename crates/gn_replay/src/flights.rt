@@ -6,7 +6,7 @@ ghost use Rattle.gn_replay.specs.Playing.{after_playing};
 ghost use Rattle.gn_replay.specs.Routes.{routes, routes_all};
 
 use crate::playing::Play;
-use gn_rules::{Event, Refusal, RouterCore, Ticket};
+use gn_rules::{Counter, Event, Refusal, RouterCore, Ticket};
 use std::alloc::{AllocError, Allocator};
 
 impl<A: Allocator + Copy, C: RouterCore<A>> Play<A, C> {
@@ -54,7 +54,7 @@ impl<A: Allocator + Copy, C: RouterCore<A>> Play<A, C> {
         self.core.is_legal();
         let count = self.core.flights() as usize;
         let mut tickets = Vec::new(self.alloc);
-        let mut next = self.core.stats().admitted;
+        let mut next = self.core.stats().get(Counter::Admitted);
         while tickets.len() < count && 0 < next {
             next -= 1;
             self.add_flight(next, &mut tickets)?;

@@ -8,7 +8,7 @@ ghost use Rattle.gn_capture.specs.Captures.{capture_of};
 ghost use Rattle.gn_replay.specs.ReplayHistory.{AppendsHistory, HasHistoryStopped};
 ghost use Rattle.gn_replay.specs.Replays.{IsCounted};
 ghost use Rattle.gn_text.specs.Header.{header_text};
-ghost use Rattle.gn_text.specs.declared.title.Text.TheVariants.{History};
+ghost use Rattle.gn_numbers.specs.declared.titles.Text.TheVariants.{History};
 
 use crate::fault::ReplayFault;
 use crate::form::Form;

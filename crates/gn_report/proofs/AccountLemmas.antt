@@ -16,6 +16,7 @@ use Rattle.gn_shake.specs.declared.role.Role.TheVariants.{Plain}
 use Rattle.gn_shake.specs.Greeting.{is_awaited, is_calling}
 use Rattle.gn_actors.specs.ActorState.{receipt}
 use Rattle.gn_actors.specs.Tallies.{last_place}
+use Rattle.gn_actors.proofs.TallyLemmas.{last_push}
 use Rattle.gn_actors.specs.declared.who.Who.TheVariants.{House}
 use Rattle.gn_bodies.specs.declared.ends.WriterEnd.{WriterEnd}
 use Rattle.gn_bodies.specs.declared.ends.WriterEnd.TheVariants.{Drained}
@@ -32,14 +33,9 @@ use Rattle.gn_report.specs.Flaw.{AreRoutes}
 use Rattle.gn_report.specs.Looks.{IsInOrder}
 use Rattle.gn_report.specs.Seen.{AreSeen, IsLinkSeen}
 use Rattle.gn_report.specs.Vectors.{vec_of}
-use Rattle.gn_report.proofs.ConfirmedLemmas.{reader_own}
+use Rattle.gn_report.proofs.ConfirmedLemmas.{reader_own, some_of}
 use Rattle.gn_report.proofs.CountsLemmas.{counts_say}
-use Rattle.gn_report.proofs.LaterLemmas.{last_of}
 use Rattle.gn_report.proofs.ReceiptLemmas.{as_many_as_actors}
-
-some_of : {X : Type 0} (xs : List X) → 0 < length xs → X
-some_of [] below = absurd (omega arith)
-some_of (x ∷ xs) below = x
 
 -- one of which all pass a test
 all_at : {X : Type 0} (p : X → Bool) (xs : List X) (k : ℕ) (d : X) → k < length xs → list_all p xs ≡ true → p (get_or xs k d) ≡ true
@@ -63,7 +59,7 @@ settled_last {A} steps role end conn found idle own drained did settled =
     by_conn None none = absurd none
     by_conn (Some c) steps_are =
         let closing = steps_are.2 in
-        let place : last_place own ≡ closing.0 + 1 = ap last_place closing.2 ∙ last_of steps_are.0 (receipt closing.0 (Close c) (Closed 0)) in
+        let place : last_place own ≡ closing.0 + 1 = ap last_place closing.2 ∙ last_push steps_are.0 (receipt closing.0 (Close c) (Closed 0)) in
         let same : closing.0 ≡ last_place own - 1 = omega (arith, place) in
         subst (λ n. is_settled steps n ≡ true) same (subst (λ o. IsIdleAfter steps o) closing.1 settled).1
 

@@ -7,7 +7,7 @@ use Rattle.std.proofs.lemmas.List.Folds.{list_any_at}
 use Rattle.std.proofs.lemmas.Map.Views.{exact_unsigned_eq}
 use Rattle.gn_rules.specs.declared.config.Config.{Config}
 use Rattle.gn_rules.specs.declared.event.Event.{Event}
-use Rattle.gn_rules.specs.declared.event.Event.TheVariants.{Connect, Close, Admit, Route, Take, Originate}
+use Rattle.gn_rules.specs.declared.event.Event.TheVariants.{Close}
 use Rattle.gn_rules.specs.declared.receipt.Receipt.{Receipt}
 use Rattle.gn_rules.specs.declared.receipt.Step.{Step}
 use Rattle.gn_rules.specs.Answer.{IsLegal}
@@ -169,29 +169,17 @@ keeps_open None c d other is = absurd (cc)
 keeps_open (Some x) c d other is = ne_eqb c d (λ same. other (ap (λ (n : ℕ). Some n) (sym (same ∙ exact_unsigned_eq d x is))))
 
 reader_keeps : {A : Type 0} (o : Option ℕ) (c : ℕ) → (o ≡ Some c → ⊥) → (event : Event A) → is_readers o event ≡ true → is_close c event ≡ false
-reader_keeps o c other Connect is = refl
 reader_keeps o c other (Close d) is = keeps_open o c d other is
-reader_keeps o c other (Admit d packet) is = refl
-reader_keeps o c other (Route t) is = refl
-reader_keeps o c other (Take d) is = refl
-reader_keeps o c other (Originate packet) is = refl
+reader_keeps o c other event is = refl
 
 writer_keeps : {A : Type 0} (o : Option ℕ) (c : ℕ) → (o ≡ Some c → ⊥) → (event : Event A) → is_writers o event ≡ true → is_close c event ≡ false
-writer_keeps o c other Connect is = refl
 writer_keeps o c other (Close d) is = keeps_open o c d other is
-writer_keeps o c other (Admit d packet) is = refl
-writer_keeps o c other (Route t) is = refl
-writer_keeps o c other (Take d) is = refl
-writer_keeps o c other (Originate packet) is = refl
+writer_keeps o c other event is = refl
 
 house_keeps : {A : Type 0} (originates : Bool) (c : ℕ) (event : Event A) → is_houses originates event ≡ true → is_close c event ≡ false
-house_keeps originates c Connect is = refl
 house_keeps true c (Close d) is = absurd (cc)
 house_keeps false c (Close d) is = absurd (cc)
-house_keeps originates c (Admit d packet) is = refl
-house_keeps originates c (Route t) is = refl
-house_keeps originates c (Take d) is = refl
-house_keeps originates c (Originate packet) is = refl
+house_keeps originates c event is = refl
 
 -- links of one connection are one
 same_link : {A : Type 0} {originates : Bool} (s : Config) (steps : List (Step A)) (conns : List (Option ℕ)) (j k c : ℕ) → IsLegal s (reverse steps) → AreLikewise originates steps conns → j < length conns → k < length conns → get_or conns j None ≡ Some c

@@ -71,12 +71,12 @@ house_at settled roles report all =
     let a = n + n + length report.workers.items in
     match_false _ _ (le-ltb a a (omega arith)) (match_false _ _ (le-ltb a (n + n) (omega arith)) (match_false _ _ (le-ltb a n (omega arith)) (all a (omega arith)).1))
 
-some_of : {X : Type 0} (xs : List X) → 0 < length xs → X
+pub some_of : {X : Type 0} (xs : List X) → 0 < length xs → X
 some_of [] below = absurd (omega arith)
 some_of (x ∷ xs) below = x
 
 -- what routes alone does what the house may
-one_own : {A : Type 0} (originates : Bool) (event : Event A) → is_some (ticket_of event) ≡ true → is_houses originates event ≡ true
+pub one_own : {A : Type 0} (originates : Bool) (event : Event A) → is_some (ticket_of event) ≡ true → is_houses originates event ≡ true
 one_own false event routes = routes
 one_own true event routes = rw routes refl
 

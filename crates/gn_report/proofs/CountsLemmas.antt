@@ -9,7 +9,7 @@ use Rattle.gn_shake.specs.declared.role.Role.{Role}
 use Rattle.gn_shake.specs.Greeting.{is_calling}
 use Rattle.gn_bodies.specs.declared.ends.ReaderEnd.TheVariants.{NotLive}
 use Rattle.gn_bodies.specs.declared.ends.WriterEnd.{WriterEnd}
-use Rattle.gn_bodies.specs.declared.ends.WriterEnd.TheVariants.{Drained, WriteFailed, Closed, NeverOpened}
+use Rattle.gn_bodies.specs.declared.ends.WriterEnd.TheVariants.{Drained, WriteFailed}
 use Rattle.gn_report.specs.declared.account.LinkAccount.{LinkAccount}
 use Rattle.gn_report.specs.declared.account.LinkEnd.{LinkEnd}
 use Rattle.gn_report.specs.declared.account.LinkEnd.TheVariants.{Cut, Whole}
@@ -18,12 +18,12 @@ use Rattle.gn_report.specs.declared.looks.Looks.{Looks}
 use Rattle.gn_report.specs.BodyEnds.{may_close_first}
 use Rattle.gn_report.specs.Looks.{AreCounted, AreRight, CountsSay, IsBefore, IsCounted, IsFrom, calls_so_far}
 
-get_set_same : {X : Type 0} (xs : List X) (i : ℕ) (x : X) → i < length xs → slice_get (set xs i x) i ≡ Some x
+pub get_set_same : {X : Type 0} (xs : List X) (i : ℕ) (x : X) → i < length xs → slice_get (set xs i x) i ≡ Some x
 get_set_same [] i x h = absurd (omega (arith, h))
 get_set_same (y ∷ ys) zero x h = refl
 get_set_same (y ∷ ys) (suc i) x h = get_set_same ys i x (omega (arith, h))
 
-get_set_other : {X : Type 0} (xs : List X) (i j : ℕ) (x : X) → j ≢ i → slice_get (set xs i x) j ≡ slice_get xs j
+pub get_set_other : {X : Type 0} (xs : List X) (i j : ℕ) (x : X) → j ≢ i → slice_get (set xs i x) j ≡ slice_get xs j
 get_set_other [] i j x h = refl
 get_set_other (y ∷ ys) zero zero x h = absurd (h refl)
 get_set_other (y ∷ ys) zero (suc j) x h = refl
@@ -165,8 +165,7 @@ may_close : (all_call : Bool) (role : Role) (end : WriterEnd) → may_close_firs
 may_close all_call role WriteFailed may not_both = refl
 may_close true role Drained may not_both = absurd (not_both refl refl)
 may_close false role Drained may not_both = may
-may_close all_call role Closed may not_both = absurd (cc)
-may_close all_call role NeverOpened may not_both = absurd (cc)
+may_close all_call role end may not_both = absurd (cc)
 
 -- a reader that is awaited, of a link that calls or not
 awaited_calls : (all_call calls : Bool) → (all_call || not calls) ≡ true → calls ≡ true → all_call ≡ true

@@ -5,12 +5,12 @@ use Rattle.std.proofs.lemmas.Bool.{eq-eqb}
 use Rattle.std.proofs.lemmas.List.Folds.{list_all-append}
 use Rattle.gn_wire.specs.Packet.{Packet}
 use Rattle.gn_rules.specs.declared.event.Event.{Event}
-use Rattle.gn_rules.specs.declared.event.Event.TheVariants.{Connect, Close, Admit, Route, Take, Originate}
+use Rattle.gn_rules.specs.declared.event.Event.TheVariants.{Connect, Close, Admit, Route}
 use Rattle.gn_rules.specs.declared.receipt.Receipt.{Receipt}
 use Rattle.gn_rules.specs.History.{is_close, ticket_of}
 use Rattle.gn_laws.specs.Owners.{is_readers}
 use Rattle.gn_bodies.specs.declared.ends.ReaderEnd.{ReaderEnd}
-use Rattle.gn_bodies.specs.declared.ends.ReaderEnd.TheVariants.{Bytes, Fault, ReadFailed, Turns, GreetingRefused, GreetingCut, TooMany, NotLive}
+use Rattle.gn_bodies.specs.declared.ends.ReaderEnd.TheVariants.{Bytes, Fault, NotLive}
 use Rattle.gn_bodies.specs.Events.{link_events_in}
 use Rattle.gn_bodies.specs.ReaderRows.{ClosesMaybe, ReaderDid, WithClose, closes}
 
@@ -30,12 +30,8 @@ all_by_link {A} f routes (r ∷ own) all = by_event r.event all (all_by_link f r
     both false here later = absurd (cc)
 
     by_event : (event : Event A) → list_all f (cond (not (is_some (ticket_of event))) (event ∷ others) others) ≡ true → (list_all f others ≡ true → rest ≡ true) → (f event && rest) ≡ true
-    by_event Connect here later = both (f Connect) here later
-    by_event (Close c) here later = both (f (Close c)) here later
-    by_event (Admit c d) here later = both (f (Admit c d)) here later
     by_event (Route t) here later = rw (routes t) (later here)
-    by_event (Take c) here later = both (f (Take c)) here later
-    by_event (Originate d) here later = both (f (Originate d)) here later
+    by_event event here later = both (f event) here later
 
 all_admits : {A : Type 0} (f : Event A → Bool) (c : ℕ) → ((d : Packet) → f (Admit c d) ≡ true) → (ds : List Packet) → list_all f (map (Admit c) ds) ≡ true
 all_admits f c admits [] = refl
@@ -59,14 +55,10 @@ joined_all {A} f end c own connects admits routes close (joined, ds, events) =
 -- its events are a reader's
 pub readers_alone : {A : Type 0} (end : ReaderEnd) (conn : Option ℕ) (own : List (Receipt A)) → ReaderDid end conn own → list_all (λ r. is_readers conn r.event) own ≡ true
 readers_alone end (Some c) own did = joined_all (is_readers (Some c)) end c own refl (λ d. eq-eqb c c refl) (λ t. refl) (λ is. eq-eqb c c refl) did
-readers_alone {A} TooMany None own did = ap (λ (rs : List (Receipt A)). list_all (λ r. is_readers None r.event) rs) did.1
 readers_alone {A} Bytes None own did = let other = did.0 in absurd (cc)
 readers_alone {A} (Fault f) None own did = let other = did.0 in absurd (cc)
-readers_alone {A} ReadFailed None own did = ap (λ (rs : List (Receipt A)). list_all (λ r. is_readers None r.event) rs) did.1
-readers_alone {A} Turns None own did = ap (λ (rs : List (Receipt A)). list_all (λ r. is_readers None r.event) rs) did.1
-readers_alone {A} GreetingRefused None own did = ap (λ (rs : List (Receipt A)). list_all (λ r. is_readers None r.event) rs) did.1
-readers_alone {A} GreetingCut None own did = ap (λ (rs : List (Receipt A)). list_all (λ r. is_readers None r.event) rs) did.1
 readers_alone {A} NotLive None own did = let other = did.0 in absurd (cc)
+readers_alone {A} end None own did = ap (λ (rs : List (Receipt A)). list_all (λ r. is_readers None r.event) rs) did.1
 
 -- where its end closes nothing, it closed nothing
 pub closed_nothing : {A : Type 0} (end : ReaderEnd) (c : ℕ) (own : List (Receipt A)) → closes end ≡ false → ReaderDid end (Some c) own → list_all (λ r. not (is_close c r.event)) own ≡ true

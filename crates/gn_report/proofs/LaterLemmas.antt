@@ -13,13 +13,8 @@ use Rattle.gn_shake.specs.declared.role.Role.{Role}
 use Rattle.gn_actors.specs.ActorState.{receipt}
 use Rattle.gn_report.specs.Actors.{is_awaited_reader}
 use Rattle.gn_actors.specs.Tallies.{last_place}
+use Rattle.gn_actors.proofs.TallyLemmas.{last_push}
 use Rattle.gn_report.proofs.ComparedLemmas.{is_last_close}
-
--- one receipt more is the last
-pub last_of : {A : Type 0} (before : List (Receipt A)) (r : Receipt A) → last_place (before ++ r ∷ []) ≡ r.index + 1
-last_of [] r = refl
-last_of (x ∷ []) r = refl
-last_of (x ∷ y ∷ before) r = last_of (y ∷ before) r
 
 -- more receipts end no earlier
 last_more : {A : Type 0} (r : Receipt A) (rs : List (Receipt A)) → last_place rs ≤ last_place (r ∷ rs)
@@ -91,7 +86,7 @@ pub drained_close : {A : Type 0} (settled : ℕ → Bool) (roles : List Role) (s
     → list_any (is_last_close settled roles steps c) own ≡ true
 drained_close {A} settled roles steps c index before own is idle later =
     let last : Receipt A = receipt index (Close c) (Closed 0) in
-    let place : last_place own ≡ index + 1 = ap last_place is ∙ last_of before last in
+    let place : last_place own ≡ index + 1 = ap last_place is ∙ last_push before last in
     let just : last_place own - 1 ≡ index = omega (arith, place) in
     let none : list_all (λ (step : Step A). not (is_awaited_reader roles step.actor)) (drop index steps) ≡ true =
     none_of_these (is_awaited_reader roles) (drop index steps) (λ a one. let low = later a one in none_after steps a index (omega (arith, low, place))) in

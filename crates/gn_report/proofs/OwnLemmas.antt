@@ -1,19 +1,15 @@
 -- Receipts that are looked at one after the other: each stands at its index, and the indices ascend.
-use Rattle.std.proofs.Common.{◌≡◌, ◌≤◌, ◌<◌, ◌+◌, ◌&&◌, ℕ, suc, true, not, nat_lt, List, [], ◌∷◌, length, drop, get_or, refl, sym, ap, ◌∙◌, inl, inr, subst, arith, length-drop, drop-cons, add-one}
+use Rattle.std.proofs.Common.{◌≡◌, ◌≤◌, ◌<◌, ◌+◌, ◌&&◌, ℕ, suc, true, not, nat_lt, List, [], ◌∷◌, length, drop, get_or, sym, ap, ◌∙◌, inl, inr, subst, arith, length-drop, drop-cons, add-one}
 use Rattle.std.proofs.lemmas.Bool.{and_parts, cases_lt, le-ltb, lt-ltb}
-use Rattle.std.proofs.lemmas.List.{get_or_default}
+use Rattle.std.proofs.lemmas.List.{get_or_default, nil_from_length}
 use Rattle.gn_rules.specs.declared.receipt.Receipt.{Receipt}
 use Rattle.gn_rules.specs.declared.receipt.Step.{Step}
 use Rattle.gn_rules.specs.History.{step_of}
 use Rattle.gn_laws.specs.Owners.{AreFitting, indices_ascend}
 use Rattle.gn_report.specs.Actors.{Stands}
 
-empty_of : {X : Type 0} (xs : List X) → length xs ≡ 0 → xs ≡ []
-empty_of [] e = refl
-empty_of (x ∷ xs) e = absurd (omega arith)
-
 none_left : {X : Type 0} (n : ℕ) (xs : List X) → length xs ≤ n → drop n xs ≡ []
-none_left n xs le = empty_of (drop n xs) (omega (arith, length-drop n xs))
+none_left n xs le = nil_from_length (drop n xs) (omega (arith, length-drop n xs))
 
 next_left : {X : Type 0} (n : ℕ) (xs : List X) (x : X) → n < length xs → x ≡ get_or xs n x → drop n xs ≡ x ∷ drop (n + 1) xs
 next_left n xs x below is = rw (add-one, drop-cons xs n x) (ap (λ y. y ∷ drop (suc n) xs) (sym is))

@@ -89,14 +89,10 @@ joined_once {A} true c ds es (inr is) = ap (count_by is_connect) is ∙ one_conn
 -- a reader connected at most once
 pub connected_once : {A : Type 0} (end : ReaderEnd) (conn : Option ℕ) (own : List (Receipt A)) → ReaderDid end conn own → count_by (λ r. is_connect r.event) own ≤ 1
 connected_once {A} end (Some c) own (joined, ds, events) = let inside = connects_in own in let one = joined_once (closes end) c ds (link_events_in own) events in omega (arith, inside, one)
-connected_once {A} TooMany None own did = let same = ap (λ (rs : List (Receipt A)). count_by (λ r. is_connect r.event) rs) did.1 in omega (arith, same)
 connected_once {A} Bytes None own did = let other = did.0 in absurd (cc)
 connected_once {A} (Fault f) None own did = let other = did.0 in absurd (cc)
-connected_once {A} ReadFailed None own did = let same = ap (λ (rs : List (Receipt A)). count_by (λ r. is_connect r.event) rs) did.1 in omega (arith, same)
-connected_once {A} Turns None own did = let same = ap (λ (rs : List (Receipt A)). count_by (λ r. is_connect r.event) rs) did.1 in omega (arith, same)
-connected_once {A} GreetingRefused None own did = let same = ap (λ (rs : List (Receipt A)). count_by (λ r. is_connect r.event) rs) did.1 in omega (arith, same)
-connected_once {A} GreetingCut None own did = let same = ap (λ (rs : List (Receipt A)). count_by (λ r. is_connect r.event) rs) did.1 in omega (arith, same)
 connected_once {A} NotLive None own did = let other = did.0 in absurd (cc)
+connected_once {A} end None own did = let same = ap (λ (rs : List (Receipt A)). count_by (λ r. is_connect r.event) rs) did.1 in omega (arith, same)
 
 -- a reader's end is right, where somebody closed its connection that must be closed, and where its writer closed first at NotLive
 pub reader_end_is : {A : Type 0} (steps : List (Step A)) (writer : ℕ) (first : Bool) (own : List (Receipt A)) (end : ReaderEnd) (written conn : Option ℕ) → ReaderDid end conn own
@@ -108,17 +104,12 @@ reader_end_is steps writer first own (Fault f) written (Some c) did closed by_wr
 reader_end_is steps writer first own ReadFailed written (Some c) did closed by_writer = closed refl c refl
 reader_end_is steps writer first own Turns written (Some c) did closed by_writer = closed refl c refl
 reader_end_is steps writer first own NotLive written (Some c) did closed by_writer = by_writer c refl refl
-reader_end_is steps writer first own GreetingRefused written (Some c) did closed by_writer = let other = did.0 in absurd (cc)
-reader_end_is steps writer first own GreetingCut written (Some c) did closed by_writer = let other = did.0 in absurd (cc)
-reader_end_is steps writer first own TooMany written (Some c) did closed by_writer = let other = did.0 in absurd (cc)
 reader_end_is steps writer first own ReadFailed written None did closed by_writer = refl
 reader_end_is steps writer first own Turns written None did closed by_writer = refl
 reader_end_is {A} steps writer first own GreetingRefused written None did closed by_writer = ap (λ (rs : List (Receipt A)). length rs == 0) did.1
 reader_end_is {A} steps writer first own GreetingCut written None did closed by_writer = ap (λ (rs : List (Receipt A)). length rs == 0) did.1
 reader_end_is {A} steps writer first own TooMany written None did closed by_writer = ap (λ (rs : List (Receipt A)). (length rs == 1) && list_all (λ r. is_turned_away r.event r.reply) rs) did.1
-reader_end_is steps writer first own Bytes written None did closed by_writer = let other = did.0 in absurd (cc)
-reader_end_is steps writer first own (Fault f) written None did closed by_writer = let other = did.0 in absurd (cc)
-reader_end_is steps writer first own NotLive written None did closed by_writer = let other = did.0 in absurd (cc)
+reader_end_is steps writer first own end written conn did closed by_writer = let other = did.0 in absurd (cc)
 
 -- takes pass a test that each Take does
 takes_pass : {A : Type 0} (f : Event A → Bool) (c : ℕ) (taken : List TakenAt) → f (Take c) ≡ true → list_all (λ r. f r.event) (map (taken_receipt {A = A} c) taken) ≡ true
@@ -144,11 +135,9 @@ writer_alone role Drained (Some c) found idle own (before, takes, (index, at, is
     all_and_one (is_writers (Some c)) before own (receipt index (Close c) (reply.Closed 0)) (all_takes (is_writers (Some c)) c before (eq-eqb c c refl) takes) (eq-eqb c c refl) is
 writer_alone role Closed (Some c) found idle own takes = all_takes (is_writers (Some c)) c own (eq-eqb c c refl) takes
 writer_alone role WriteFailed (Some c) found idle own (before, takes, closed) = then_closed (is_writers (Some c)) c found before own (eq-eqb c c refl) (all_takes (is_writers (Some c)) c before (eq-eqb c c refl) takes) closed
-writer_alone role NeverOpened (Some c) found idle own did = absurd did
-writer_alone role Drained None found idle own did = absurd did
-writer_alone role Closed None found idle own did = absurd did
 writer_alone {A} role WriteFailed None found idle own did = ap (λ (rs : List (Receipt A)). list_all (λ r. is_writers None r.event) rs) did.1
 writer_alone {A} role NeverOpened None found idle own did = ap (λ (rs : List (Receipt A)). list_all (λ r. is_writers None r.event) rs) did
+writer_alone role end written found idle own did = absurd did
 
 -- where a writer has no connection, it made no event
 writer_idle : {A : Type 0} (conn : Option ℕ) (own : List (Receipt A)) → own ≡ [] → list_all (λ r. is_writers conn r.event) own ≡ true

@@ -13,7 +13,7 @@ use Rattle.gn_shake.specs.declared.role.Role.{Role}
 use Rattle.gn_shake.specs.declared.role.Role.TheVariants.{Plain}
 use Rattle.gn_shake.specs.Greeting.{is_calling}
 use Rattle.gn_bodies.specs.declared.ends.ReaderEnd.{ReaderEnd}
-use Rattle.gn_bodies.specs.declared.ends.ReaderEnd.TheVariants.{Bytes, Fault, ReadFailed, Turns, GreetingRefused, GreetingCut, TooMany, NotLive}
+use Rattle.gn_bodies.specs.declared.ends.ReaderEnd.TheVariants.{Bytes, NotLive}
 use Rattle.gn_bodies.specs.ReaderRows.{ReaderDid}
 use Rattle.gn_report.proofs.DidLemmas.{closed_nothing, readers_alone}
 use Rattle.gn_report.specs.declared.report.LinkReport.{LinkReport}
@@ -46,13 +46,7 @@ seen_compared {originates = originates} roles report seen =
 -- a writer's connection must be closed
 gone_written : (end : ReaderEnd) (c : ℕ) → must_be_gone end (Some c) ≡ true
 gone_written Bytes c = refl
-gone_written (Fault f) c = refl
-gone_written ReadFailed c = refl
-gone_written Turns c = refl
-gone_written GreetingRefused c = refl
-gone_written GreetingCut c = refl
-gone_written TooMany c = refl
-gone_written NotLive c = refl
+gone_written end c = refl
 
 -- the connection of a link was closed by its writer, where its reader closed nothing
 seen_by_writer : {Rd W A : Type 0} {originates : Bool} (s : Config) (roles : List Role) (report : Report Rd W A) → IsLegal s (reverse report.history.items) → AreSeen originates roles report → (k : ℕ) (d : LinkReport Rd W A) → k < length report.links.items → (c : ℕ)

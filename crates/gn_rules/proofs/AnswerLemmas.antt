@@ -11,7 +11,7 @@ use Rattle.gn_rules.specs.declared.refusal.Refusal.{Refusal}
 use Rattle.gn_rules.specs.declared.refusal.Refusal.TheVariants.{HistoryFull, NotLive, NoTicket, Strange, NothingWaiting, BadOrigin, Remembered}
 use Rattle.gn_rules.specs.declared.reply.Reply.{Reply}
 use Rattle.gn_rules.specs.declared.reply.Reply.TheVariants.{Connected, TooMany, Closed, Admitted, Busy, Crowded, Taken, Sent}
-use Rattle.gn_rules.specs.Answer.{answer, checked_answer, decision_reply, event_answer, may_originate, unless_strange}
+use Rattle.gn_rules.specs.Answer.{admission_reply, answer, checked_answer, decision_reply, event_answer, may_originate, unless_strange}
 use Rattle.gn_rules.specs.Decision.{decide}
 use Rattle.gn_rules.specs.Flight.{Admission, flying, flying_from, in_flight, tickets}
 use Rattle.gn_rules.specs.History.{live, connections, live_connections}
@@ -52,10 +52,11 @@ where_live true rules reply e = (refl, e)
 where_live false rules reply e = absurd (cc)
 
 -- one of three replies
-which_reply : {A : Type 0} (b d : Bool) (x y z reply : Reply A) → cond {A = Result (Reply A) Refusal} b (Ok x) (cond d (Ok y) (Ok z)) ≡ Ok reply → (reply ≡ x) ⊎ (reply ≡ y) ⊎ (reply ≡ z)
-which_reply true d x y z reply e = let is : reply ≡ x = cc in inl is
-which_reply false true x y z reply e = let is : reply ≡ y = cc in inr (inl is)
-which_reply false false x y z reply e = let is : reply ≡ z = cc in inr (inr is)
+which_admission : {A : Type 0} (busy crowded : Bool) (next : ℕ) (reply : Reply A) → reply ≡ admission_reply busy crowded next
+    → (reply ≡ Busy) ⊎ (reply ≡ Crowded) ⊎ (reply ≡ Admitted next)
+which_admission true crowded next reply e = inl e
+which_admission false true next reply e = inr (inl e)
+which_admission false false next reply e = inr (inr e)
 
 -- one of two replies
 either_reply : {A : Type 0} (b : Bool) (x y reply : Reply A) → cond {A = Result (Reply A) Refusal} b (Ok x) (Ok y) ≡ Ok reply → (reply ≡ x) ⊎ (reply ≡ y)
@@ -83,8 +84,9 @@ event_reply s past (Close c) reply e =
 event_reply s past (Admit c d) reply e =
     let busy : Bool = length (flying past) == s.numbers.stage in
     let crowded : Bool = not (s.numbers.crowd == 0) && nat_le s.numbers.crowd (length (flying_from past c)) in
-    let alive = where_live (live past c) (cond busy (Ok Busy) (cond crowded (Ok Crowded) (Ok (Admitted (length (tickets past)))))) reply e in
-    (alive.0, which_reply busy crowded Busy Crowded (Admitted (length (tickets past))) reply alive.1)
+    let next : ℕ = length (tickets past) in
+    let alive = where_live (live past c) (Ok (admission_reply busy crowded next)) reply e in
+    (alive.0, which_admission busy crowded next reply (reply_is (admission_reply busy crowded next) reply alive.1))
 event_reply s past (Route t) reply e = flight_reply s past (in_flight past t) reply e
 event_reply s past (Take c) reply e =
     let alive = where_live (live past c) (ok_or (option_map (λ packet. Taken packet) (slice_get (out past c) 0)) NothingWaiting) reply e in

@@ -11,9 +11,9 @@ use Rattle.gn_rules.specs.declared.refusal.Refusal.{Refusal}
 use Rattle.gn_rules.specs.declared.refusal.Refusal.TheVariants.{HistoryFull, NotLive, NoTicket, Strange, NothingWaiting, BadOrigin, Remembered, NoMemory}
 use Rattle.gn_rules.specs.declared.reply.Reply.{Reply}
 use Rattle.gn_rules.specs.declared.reply.Reply.TheVariants.{Connected, TooMany, Closed, Admitted, Busy, Crowded, Taken, Sent}
-use Rattle.gn_rules.specs.Answer.{answer, decision_reply, event_answer, may_originate, unless_strange, Finds}
+use Rattle.gn_rules.specs.Answer.{admission_reply, answer, decision_reply, event_answer, may_originate, unless_strange, Finds}
 use Rattle.gn_rules.specs.Decision.{Decision, Drop, decide}
-use Rattle.gn_rules.specs.Fits.{is_fit, replies, AnswersFit, CheckedAnswersFit}
+use Rattle.gn_rules.specs.Fits.{is_at_threshold, is_fit, replies, AnswersFit, CheckedAnswersFit}
 use Rattle.gn_rules.specs.Flight.{Admission, flying, flying_from, in_flight, tickets}
 use Rattle.gn_rules.specs.History.{live, connections, live_connections}
 use Rattle.gn_rules.specs.Output.{out}
@@ -44,15 +44,19 @@ first_fits : (A : Type 0) (c : ℕ) (packets : List Packet)
 first_fits A c [] = refl
 first_fits A c (p ∷ ps) = refl
 
+admission_fits : (A : Type 0) (c : ℕ) (d : Packet) (busy crowded : Bool) (next : ℕ) → replies {A = A} (Admit c d) (admission_reply busy crowded next) ≡ true
+admission_fits A c d true crowded next = refl
+admission_fits A c d false true next = refl
+admission_fits A c d false false next = refl
+
 event_fits : {A : Type 0} (s : Config) (past : List (Step A)) (event : Event A) → is_fit event (event_answer s past event) ≡ true
 event_fits s past Connect = either_fits Connect (length (live_connections past) == s.numbers.neighbours) (Ok TooMany) (Ok (Connected (1 + length (connections past)))) refl refl
 event_fits s past (Close c) = either_fits (Close c) (not (live past c)) (Err NotLive) (Ok (Closed (length (out past c)))) refl refl
-event_fits s past (Admit c d) =
+event_fits {A} s past (Admit c d) =
     let busy : Bool = length (flying past) == s.numbers.stage in
     let crowded : Bool = not (s.numbers.crowd == 0) && nat_le s.numbers.crowd (length (flying_from past c)) in
-    either_fits (Admit c d) (not (live past c)) (Err NotLive) (cond busy (Ok Busy) (cond crowded (Ok Crowded) (Ok (Admitted (length (tickets past)))))) refl
-    (either_fits (Admit c d) busy (Ok Busy) (cond crowded (Ok Crowded) (Ok (Admitted (length (tickets past))))) refl
-    (either_fits (Admit c d) crowded (Ok Crowded) (Ok (Admitted (length (tickets past)))) refl refl))
+    let next : ℕ = length (tickets past) in
+    either_fits (Admit c d) (not (live past c)) (Err NotLive) (Ok (admission_reply busy crowded next)) refl (admission_fits A c d busy crowded next)
 event_fits s past (Route t) = flight_fits s past t (in_flight past t)
 event_fits {A} s past (Take c) =
     either_fits (Take c) (not (live past c)) (Err NotLive) (ok_or (option_map (λ packet. Taken packet) (slice_get (out past c) 0)) NothingWaiting) refl (first_fits A c (out past c))
@@ -65,6 +69,12 @@ answers_fit A s past event = either_fits event (length past == s.numbers.steps) 
 
 pub checked_answers_fit : (A : Type 0) → CheckedAnswersFit A
 checked_answers_fit A s past t d = strange_fits t d (in_flight past t) (answer s past (Route t)) (answers_fit A s past (Route t))
+
+-- what holds of each reply at a threshold
+pub threshold_elim : {A : Type 0} (P : Reply A → Type 0) → P Busy → P Crowded → (reply : Reply A) → is_at_threshold reply ≡ true → P reply
+threshold_elim P busy crowded Busy reached = busy
+threshold_elim P busy crowded Crowded reached = crowded
+threshold_elim P busy crowded reply reached = absurd (cc)
 
 -- what a router finds fits where the rules' answer does
 pub found_fits : {A : Type 0} (event : Event A) (found rules : Result (Reply A) Refusal) → Finds found rules → is_fit event rules ≡ true → is_fit event found ≡ true

@@ -1,6 +1,7 @@
 pub mod AnswerLemmas
 pub mod ConfigLemmas
 pub mod CounterLemmas
+pub mod DecisionLemmas
 pub mod EntryLemmas
 pub mod FitLemmas
 pub mod FlightLemmas
@@ -9,6 +10,7 @@ pub mod LiveLemmas
 pub mod NumberLemmas
 pub mod OutputLemmas
 pub mod PastLemmas
+pub mod PlainLemmas
 pub mod RunLemmas
 pub mod SendLemmas
 pub mod ServentLemmas

@@ -1,5 +1,5 @@
--- What waits is what was queued, less what was taken; and the counters add up.
-use Rattle.std.proofs.Common.{◌≡◌, ◌≤◌, ◌<◌, ◌+◌, ◌==◌, ℕ, true, false, List, [], ◌∷◌, ◌++◌, length, drop, map, sum, suc, Ok, refl, sym, ap, ◌∙◌, arith, add-zero, length-append, length-drop}
+-- What waits is what was queued, less what was taken.
+use Rattle.std.proofs.Common.{◌≡◌, ◌≤◌, ◌<◌, ◌+◌, ◌==◌, ℕ, true, false, List, [], ◌∷◌, ◌++◌, length, drop, Ok, refl, sym, ap, ◌∙◌, arith, add-zero, length-append, length-drop}
 use Rattle.std.proofs.lemmas.List.{append-nil, drop-append-le, drop-drop}
 use Rattle.std.proofs.lemmas.Map.Views.{exact_unsigned_eq}
 use Rattle.gn_wire.specs.Packet.{Packet}
@@ -10,11 +10,7 @@ use Rattle.gn_rules.specs.declared.receipt.Step.{Step}
 use Rattle.gn_rules.specs.declared.reply.Reply.{Reply}
 use Rattle.gn_rules.specs.Answer.{answer, IsLegal}
 use Rattle.gn_rules.specs.History.{is_take, sends_of}
-use Rattle.gn_rules.specs.Laws.{OutputIsUntaken, CountersAddUp}
-use Rattle.gn_rules.specs.declared.statistics.Counter.{Counter}
-use Rattle.gn_rules.specs.declared.statistics.Counter.TheVariants as counter
-use Rattle.gn_rules.specs.declared.statistics.Stats.{Stats}
-use Rattle.gn_rules.specs.Statistics.{counter_of, raised, stats_of, count_in}
+use Rattle.gn_rules.specs.Laws.{OutputIsUntaken}
 use Rattle.gn_rules.specs.Output.{out, queued, takes, queued_to}
 use Rattle.gn_rules.proofs.AnswerLemmas.{take_reply}
 
@@ -76,39 +72,3 @@ all_untaken s (step ∷ past) c legal = untaken_more s past step.actor c step.ev
 
 pub output_is_untaken : (A : Type 0) → OutputIsUntaken A
 output_is_untaken A s past c legal = (all_untaken s past c legal).rest
-
--- the sum of all counters
-total : Stats → ℕ
-total n = sum (map (λ k. count_in k n)
-    (counter.Connected ∷ counter.TooMany ∷ counter.Closed ∷ counter.Admitted ∷ counter.Busy ∷ counter.Crowded ∷ counter.Routed ∷ counter.UnknownKind
-    ∷ counter.Malformed ∷ counter.Duplicate ∷ counter.NoRoute ∷ counter.RouteGone ∷ counter.BackToSender ∷ counter.Expired
-    ∷ counter.Taken ∷ counter.Sent ∷ []))
-
--- one more of a counter is one more in all
-total-raised : (k : Counter) (n : Stats) → total (raised k n) ≡ suc (total n)
-unfolding total
-total-raised counter.Connected n = omega arith
-total-raised counter.TooMany n = omega arith
-total-raised counter.Closed n = omega arith
-total-raised counter.Admitted n = omega arith
-total-raised counter.Busy n = omega arith
-total-raised counter.Crowded n = omega arith
-total-raised counter.Routed n = omega arith
-total-raised counter.UnknownKind n = omega arith
-total-raised counter.Malformed n = omega arith
-total-raised counter.Duplicate n = omega arith
-total-raised counter.NoRoute n = omega arith
-total-raised counter.RouteGone n = omega arith
-total-raised counter.BackToSender n = omega arith
-total-raised counter.Expired n = omega arith
-total-raised counter.Taken n = omega arith
-total-raised counter.Sent n = omega arith
-
-total_is : {A : Type 0} (past : List (Step A)) → total (stats_of past) ≡ length past
-unfolding total
-total_is [] = refl
-total_is (step ∷ past) = total-raised (counter_of step.reply) (stats_of past) ∙ ap suc (total_is past)
-
-pub counters_add_up : (A : Type 0) → CountersAddUp A
-unfolding total
-counters_add_up A past = total_is past

@@ -2,7 +2,6 @@
 use Rattle.std.specs.Prelude.{◌≡◌, ◌+◌, ℕ, Bool, true, false, ◌==◌, ◌&&◌, not, nat_le, if◌then◌else◌, List, [], ◌∷◌, length, slice_get, Option, option_map, ok_or, Result, Ok, Err, IsOk}
 use Rattle.std.specs.Option.{option_map_or}
 use Rattle.gn_wire.specs.declared.kind.Kind.{Kind}
-use Rattle.gn_wire.specs.declared.kind.Kind.TheVariants.{Ping, Query}
 use Rattle.gn_wire.specs.Packet.{forward_of, life_left, Packet}
 use Rattle.gn_wire.specs.Keys.{key_of, is_same_packet}
 use Rattle.gn_payload.specs.Reading.{has_reading}
@@ -19,14 +18,13 @@ use Rattle.gn_rules.specs.Decision.{Decision, Drop, Local, Flood, Forward, decid
 use Rattle.gn_rules.specs.Flight.{Admission, tickets, flying, flying_from, in_flight}
 use Rattle.gn_rules.specs.History.{live, connections, live_connections}
 use Rattle.gn_rules.specs.Output.{out}
+use Rattle.gn_rules.specs.Routings.{does_flood, routing_of}
 use Rattle.gn_rules.specs.Sending.{send, fanout, flood_sends}
 use Rattle.gn_rules.specs.SeenEntries.{is_remembered}
 
--- whether a kind is Ping or Query
+-- whether a kind is a request
 abbrev pub is_request : Kind → Bool
-is_request Ping = true
-is_request Query = true
-is_request kind = false
+is_request kind = does_flood (routing_of kind)
 
 -- whether the local servent may send d: a sound Ping or Query with a TTL above 0 and within the limit on a life, and Hops 0
 abbrev pub may_originate : ℕ → Packet → Bool
@@ -40,6 +38,10 @@ decision_reply s past a Local = Routed [] true
 decision_reply s past a Flood = Routed (flood_sends s past a) true
 decision_reply s past a (Forward r) = Routed (send s past (forward_of s.numbers.life a.packet) r ∷ []) false
 
+-- the reply to an Admit: Busy at the threshold, Crowded at that of one connection, else the next ticket
+abbrev pub admission_reply : {A : Type 0} → Bool → Bool → ℕ → Reply A
+admission_reply busy crowded next = if busy then Busy else if crowded then Crowded else Admitted next
+
 -- what the rules answer to an event where the history has room for a step: a reply, or a refusal
 abbrev pub event_answer : {A : Type 0} → Config → List (Step A) → Event A → Result (Reply A) Refusal
 -- TooMany where the limit of live connections is reached, else the next number
@@ -48,13 +50,12 @@ event_answer s past Connect =
     else Ok (Connected (1 + length (connections past)))
 -- refused where c isn't live, else how many packets are discarded
 event_answer s past (Close c) = if not (live past c) then Err NotLive else Ok (Closed (length (out past c)))
--- refused where c isn't live; Busy where the threshold is reached; Crowded where c has reached the threshold of one connection;
--- else the next ticket
+-- refused where c isn't live, else the `admission_reply` by how many are in flight, and how many of c
 event_answer s past (Admit c d) =
     if not (live past c) then Err NotLive
-    else if length (flying past) == s.numbers.stage then Ok Busy
-    else if not (s.numbers.crowd == 0) && nat_le s.numbers.crowd (length (flying_from past c)) then Ok Crowded
-    else Ok (Admitted (length (tickets past)))
+    else Ok (admission_reply (length (flying past) == s.numbers.stage)
+    (not (s.numbers.crowd == 0) && nat_le s.numbers.crowd (length (flying_from past c)))
+    (length (tickets past)))
 -- refused where nothing is in flight under the ticket, else what is decided of it
 event_answer s past (Route t) =
     ok_or (option_map (λ a. decision_reply s past a (decide s past a)) (in_flight past t)) NoTicket

@@ -2,7 +2,6 @@
 use Rattle.std.specs.Prelude.{ℕ, ◌==◌, not, if◌then◌else◌, List, Option, Some, None}
 use Rattle.std.specs.Option.{option_map_or}
 use Rattle.gn_wire.specs.declared.kind.Kind.{Kind}
-use Rattle.gn_wire.specs.declared.kind.Kind.TheVariants.{Ping, Pong, Push, Query, QueryHit, Unknown}
 use Rattle.gn_wire.specs.Packet.{is_expired}
 use Rattle.gn_wire.specs.Keys.{is_same_id, key_of}
 use Rattle.gn_payload.specs.declared.checked.Verdict.{Verdict}
@@ -13,8 +12,11 @@ use Rattle.gn_rules.specs.declared.config.Config.{Config}
 use Rattle.gn_rules.specs.declared.receipt.Step.{Step}
 use Rattle.gn_rules.specs.declared.reply.DropReason.{DropReason}
 use Rattle.gn_rules.specs.declared.reply.DropReason.TheVariants as reason
+use Rattle.gn_rules.specs.declared.routing.Routing.{Routing}
+use Rattle.gn_rules.specs.declared.routing.Routing.TheVariants.{Floods, Back, Pushed, Unnamed}
 use Rattle.gn_rules.specs.Flight.{Admission}
 use Rattle.gn_rules.specs.History.{live}
+use Rattle.gn_rules.specs.Routings.{routing_of}
 use Rattle.gn_rules.specs.Servents.{servent_route}
 use Rattle.gn_rules.specs.SeenEntries.{source, is_remembered}
 
@@ -39,26 +41,28 @@ checks s past a r =
     else if is_expired s.numbers.life a.packet then Drop reason.Expired
     else Forward r
 
--- a Pong or Query Hit goes back to the source of its request; 0 is the local servent
+-- a response goes back to the source of its request; 0 is the local servent
 abbrev pub decide_reply : {A : Type 0} → Config → List (Step A) → Admission → Option ℕ → Decision
 decide_reply s past a None = Drop reason.NoRoute
 decide_reply s past a (Some r) = if r == 0 then Local else checks s past a r
 
--- what becomes of a sound descriptor, by its kind
-abbrev pub decide_sound : {A : Type 0} → Config → List (Step A) → Admission → Kind → Decision
--- a Ping or Query is a duplicate where its key is remembered, else it is a Flood
-decide_sound s past a Ping = if is_remembered s past (key_of a.packet) then Drop reason.Duplicate else Flood
-decide_sound s past a Query = if is_remembered s past (key_of a.packet) then Drop reason.Duplicate else Flood
--- a Pong answers the Ping of its ID, a Query Hit the Query
-decide_sound s past a Pong = decide_reply s past a (source s past (record { kind = Ping; id = a.packet.id }))
-decide_sound s past a QueryHit = decide_reply s past a (source s past (record { kind = Query; id = a.packet.id }))
+-- what becomes of a sound descriptor, by its routing
+abbrev pub decide_routed : {A : Type 0} → Config → List (Step A) → Admission → Routing → Decision
+-- a request is a duplicate where its key is remembered, else it is a Flood
+decide_routed s past a Floods = if is_remembered s past (key_of a.packet) then Drop reason.Duplicate else Flood
+-- a response goes by the request of its ID
+decide_routed s past a (Back kind) = decide_reply s past a (source s past (record { kind = kind; id = a.packet.id }))
 -- a Push is a duplicate where its key is remembered; else it is for the local servent if it names this one, or goes where the
 -- named servent's last Query Hit came from
-decide_sound s past a Push =
+decide_routed s past a Pushed =
     if is_remembered s past (key_of a.packet) then Drop reason.Duplicate
     else if is_same_id (push_servent a.packet.payload) s.own.servent then Local
     else option_map_or (checks s past a) (servent_route s past (push_servent a.packet.payload)) (Drop reason.NoRoute)
-decide_sound s past a (Unknown code) = Drop reason.UnknownKind
+decide_routed s past a Unnamed = Drop reason.UnknownKind
+
+-- what becomes of a sound descriptor, by its kind
+abbrev pub decide_sound : {A : Type 0} → Config → List (Step A) → Admission → Kind → Decision
+decide_sound s past a kind = decide_routed s past a (routing_of kind)
 
 -- what becomes of a descriptor whose payload was checked: it is dropped unless it is sound
 abbrev pub decide_checked : {A : Type 0} → Config → List (Step A) → Admission → Verdict → Decision

@@ -26,6 +26,12 @@ replies (Take c) (Taken packet) = true
 replies (Originate d) (Sent sends) = true
 replies event reply = false
 
+-- whether a reply says that a threshold is reached, that of all or that of one connection: the descriptor is gone
+abbrev pub is_at_threshold : {A : Type 0} → Reply A → Bool
+is_at_threshold Busy = true
+is_at_threshold Crowded = true
+is_at_threshold reply = false
+
 -- whether an event wants a live connection
 abbrev pub wants_live : {A : Type 0} → Event A → Bool
 wants_live (Close c) = true

@@ -8,12 +8,11 @@ use Rattle.gn_rules.specs.declared.receipt.Receipt.{Receipt}
 use Rattle.gn_rules.specs.declared.receipt.Step.{Step}
 use Rattle.gn_rules.specs.declared.refusal.Refusal.{Refusal}
 use Rattle.gn_rules.specs.declared.statistics.Counter.{Counter}
-use Rattle.gn_rules.specs.declared.statistics.Counter.TheVariants as counter
 use Rattle.gn_rules.specs.Answer.{IsLegal}
 use Rattle.gn_rules.specs.History.{live_connections}
 use Rattle.gn_rules.specs.Output.{out, queued, takes}
 use Rattle.gn_rules.specs.Runs.{Ran, had_memory}
-use Rattle.gn_rules.specs.Statistics.{counter_of, is_same_counter, stats_of, count_in}
+use Rattle.gn_rules.specs.Statistics.{counter_of, counters, is_same_counter, stats_of, count_in}
 
 -- in a legal history the output of c is all that was queued to it, without as many first packets as there are takes from c
 abbrev pub OutputIsUntaken : Type 0 → Type 0
@@ -56,12 +55,7 @@ RunsAgree A =
 
 -- the counters add up to the number of steps
 abbrev pub CountersAddUp : Type 0 → Type 0
-CountersAddUp A =
-    (past : List (Step A))
-    → sum (map (λ k. count_in k (stats_of past))
-    (counter.Connected ∷ counter.TooMany ∷ counter.Closed ∷ counter.Admitted ∷ counter.Busy ∷ counter.Crowded ∷ counter.Routed ∷ counter.UnknownKind
-    ∷ counter.Malformed ∷ counter.Duplicate ∷ counter.NoRoute ∷ counter.RouteGone ∷ counter.BackToSender ∷ counter.Expired
-    ∷ counter.Taken ∷ counter.Sent ∷ [])) ≡ length past
+CountersAddUp A = (past : List (Step A)) → sum (map (λ k. count_in k (stats_of past)) counters) ≡ length past
 
 -- each counter is the number of the steps whose replies count under it
 abbrev pub CountersCount : Type 0 → Type 0

@@ -9,6 +9,8 @@ pub mod Laws
 pub mod Legality
 pub mod Limits
 pub mod Output
+pub mod Plain
+pub mod Routings
 pub mod Runs
 pub mod Sending
 pub mod ServentLaw

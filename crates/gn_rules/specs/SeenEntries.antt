@@ -4,7 +4,6 @@ use Rattle.std.specs.Option.{option_to_list, option_and_then}
 use Rattle.std.specs.Map.{lookup}
 use Rattle.gn_wire.specs.declared.key.Key.{Key}
 use Rattle.gn_wire.specs.declared.kind.Kind.{Kind}
-use Rattle.gn_wire.specs.declared.kind.Kind.TheVariants.{Ping, Push, Query}
 use Rattle.gn_wire.specs.Keys.{is_same_key, key_of}
 use Rattle.gn_rules.specs.declared.config.Config.{Config}
 use Rattle.gn_rules.specs.declared.event.Event.{Event}
@@ -13,17 +12,22 @@ use Rattle.gn_rules.specs.declared.reply.DropReason.TheVariants.{Malformed, Dupl
 use Rattle.gn_rules.specs.declared.reply.Reply.{Reply}
 use Rattle.gn_rules.specs.declared.reply.Reply.TheVariants.{Dropped, Routed, Sent}
 use Rattle.gn_rules.specs.declared.receipt.Step.{Step}
+use Rattle.gn_rules.specs.declared.routing.Routing.{Routing}
+use Rattle.gn_rules.specs.declared.routing.Routing.TheVariants.{Floods, Pushed}
 use Rattle.gn_rules.specs.Flight.{admission}
+use Rattle.gn_rules.specs.Routings.{routing_of}
 
--- whether a Route with this reply makes the key remembered: a Ping's or Query's where it is Routed, a Push's unless it is dropped
--- as Malformed or Duplicate, a Pong's or Query Hit's never
+-- a request's key is remembered where it is Routed, a Push's unless it is dropped as Malformed or Duplicate, no other's
+abbrev pub keeps_routed : {A : Type 0} → Routing → Reply A → Bool
+keeps_routed Floods (Routed sends local) = true
+keeps_routed Pushed (Dropped Malformed) = false
+keeps_routed Pushed (Dropped Duplicate) = false
+keeps_routed Pushed reply = true
+keeps_routed routing reply = false
+
+-- whether a Route with this reply makes the descriptor's key remembered
 abbrev pub keeps : {A : Type 0} → Kind → Reply A → Bool
-keeps Ping (Routed sends local) = true
-keeps Query (Routed sends local) = true
-keeps Push (Dropped Malformed) = false
-keeps Push (Dropped Duplicate) = false
-keeps Push reply = true
-keeps kind reply = false
+keeps kind reply = keeps_routed (routing_of kind) reply
 
 -- the key and source that a step adds: for a Route that `keeps`, the descriptor's key and the connection that admitted it; for an
 -- Originate, the descriptor's key and 0

@@ -1,6 +1,6 @@
 //! The router's own servent, and the numbers that bound it.
 
-ghost use Rattle.std.specs.Prelude.{◌↔◌, IsTrue, IfOk, IfErr};
+ghost use Rattle.std.specs.Prelude.{◌≡◌, ◌↔◌, IsTrue, IfOk, IfErr};
 ghost use Rattle.gn_rules.specs.Limits.{AreWithin, IsWithin};
 
 use crate::limits::Numbers;
@@ -96,34 +96,65 @@ impl Config {
         )
     }
 
+    /// These numbers, each of which is within its limit.
+    pub fn with(numbers: Numbers, own: Own) -> Config
+        requires { AreWithin numbers }
+        ensures { IsMadeOf result numbers own }
+    {
+        Config { numbers, own }
+    }
+
     /// As `new`, of numbers that stand together.
     pub fn of(numbers: Numbers, own: Own) -> Result<Config, BadConfig>
         ensures made { IfOk result (λ config. IsMadeOf config numbers own) }
         ensures first { IfErr result (λ bad. IsFirstOut bad.0 numbers) }
     {
-        if !is_within(numbers.neighbours, Numbers::MOST.neighbours) {
-            return Err(BadConfig(Field::Neighbours));
+        match numbers.first_out() {
+            Some(field) => Err(BadConfig(field)),
+            None => Ok(Config::with(numbers, own)),
         }
-        if !is_within(numbers.seen, Numbers::MOST.seen) {
-            return Err(BadConfig(Field::Seen));
-        }
-        if !is_within(numbers.servents, Numbers::MOST.servents) {
-            return Err(BadConfig(Field::Servents));
-        }
-        if !is_within(numbers.stage, Numbers::MOST.stage) {
-            return Err(BadConfig(Field::Stage));
-        }
-        if !is_within(numbers.out, Numbers::MOST.out) {
-            return Err(BadConfig(Field::Out));
-        }
-        if !is_within(numbers.steps, Numbers::MOST.steps) {
-            return Err(BadConfig(Field::Steps));
-        }
-        if numbers.crowd > Numbers::MOST.crowd {
-            return Err(BadConfig(Field::Crowd));
-        }
-        Ok(Config { numbers, own })
     }
+}
+
+impl Numbers {
+    ghost use Rattle.std.specs.Prelude.{IfNone, IfSome};
+    ghost use Rattle.gn_rules.specs.Settings.{IsFirstOut};
+
+    /// The first of them that is out of its limit. Every `life` is within, so no field names it.
+    pub fn first_out(self) -> Option<Field>
+        ensures within { IfNone result (AreWithin self) }
+        ensures first { IfSome result (λ field. IsFirstOut field self) }
+    {
+        if !is_within(self.neighbours, Numbers::MOST.neighbours) {
+            return Some(Field::Neighbours);
+        }
+        if !is_within(self.seen, Numbers::MOST.seen) {
+            return Some(Field::Seen);
+        }
+        if !is_within(self.servents, Numbers::MOST.servents) {
+            return Some(Field::Servents);
+        }
+        if !is_within(self.stage, Numbers::MOST.stage) {
+            return Some(Field::Stage);
+        }
+        if !is_within(self.out, Numbers::MOST.out) {
+            return Some(Field::Out);
+        }
+        if !is_within(self.steps, Numbers::MOST.steps) {
+            return Some(Field::Steps);
+        }
+        if self.crowd > Numbers::MOST.crowd {
+            return Some(Field::Crowd);
+        }
+        None
+    }
+}
+
+/// Whether two configurations are equal, their servents with them.
+pub fn is_same_config(a: &Config, b: &Config) -> bool
+    ensures { IsTrue result ↔ (a.now ≡ b.now) }
+{
+    a.numbers == b.numbers && a.own == b.own
 }
 
 /// Whether a number is from 1 to its limit.

@@ -1,6 +1,6 @@
 //! What happens to a router.
 
-ghost use Rattle.std.specs.Prelude.{◌≡◌, IfOk};
+ghost use Rattle.std.specs.Prelude.{◌≡◌, ◌↔◌, IfOk, IsTrue};
 
 use gn_wire::Descriptor;
 use std::alloc::{AllocError, Allocator, Global};
@@ -85,5 +85,20 @@ impl<A: Allocator> Event<A> {
             Event::Take(c) => Event::Take(*c),
             Event::Originate(d) => Event::Originate(d.copy()?),
         })
+    }
+}
+
+/// Whether two events are equal, each byte of a descriptor with them.
+pub fn is_same_event<A: Allocator>(a: &Event<A>, b: &Event<A>) -> bool
+    ensures { IsTrue result ↔ (a.now ≡ b.now) }
+{
+    match (a, b) {
+        (Event::Connect, Event::Connect) => true,
+        (Event::Close(c), Event::Close(d)) => c == d,
+        (Event::Admit(c, packet), Event::Admit(d, other)) => c == d && packet.is_same(other),
+        (Event::Route(t), Event::Route(u)) => t == u,
+        (Event::Take(c), Event::Take(d)) => c == d,
+        (Event::Originate(packet), Event::Originate(other)) => packet.is_same(other),
+        _ => false,
     }
 }

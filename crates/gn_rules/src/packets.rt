@@ -5,6 +5,7 @@ ghost use Rattle.gn_rules.specs.Answer as answer;
 ghost use Rattle.gn_rules.specs.Sending as sending;
 
 use crate::config::Own;
+use crate::routing::Routing;
 use bytes::Bytes;
 use gn_payload::{Pong, Verdict, encode_pong, verdict_on};
 use gn_wire::{Descriptor, Kind};
@@ -43,7 +44,7 @@ pub fn own_pong<A: Allocator + Copy>(
 pub fn may_originate<A: Allocator>(life: u8, packet: &Descriptor<A>) -> bool
     ensures { result ≡ answer.may_originate life packet.now }
 {
-    matches!(packet.kind(), Kind::Ping | Kind::Query)
+    matches!(Routing::of(packet.kind()), Routing::Floods)
         && packet.ttl() != 0
         && packet.hops() == 0
         && packet.life_left(life) == packet.ttl()

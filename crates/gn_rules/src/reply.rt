@@ -1,9 +1,11 @@
 //! What a router answers.
 
-ghost use Rattle.std.specs.Prelude.{◌≡◌, IfOk};
+ghost use Rattle.std.specs.Prelude.{◌≡◌, ◌↔◌, IfOk, IsTrue};
 
 use crate::event::{ConnId, Ticket};
-use crate::sends::{Sending, Sends};
+use crate::routing::Routing;
+use crate::sends::{Sending, Sends, are_same_sends};
+use crate::statistics::Counter;
 use gn_wire::{Descriptor, Kind};
 use std::alloc::{AllocError, Allocator, Global};
 
@@ -26,6 +28,26 @@ pub enum DropReason {
     Expired,
 }
 
+impl DropReason {
+    ghost use Rattle.gn_rules.specs.Plain.{reason_of};
+
+    /// The reason that a counter counts.
+    pub fn of(counter: Counter) -> Option<DropReason>
+        ensures { result ≡ reason_of counter }
+    {
+        match counter {
+            Counter::UnknownKind => Some(DropReason::UnknownKind),
+            Counter::Malformed => Some(DropReason::Malformed),
+            Counter::Duplicate => Some(DropReason::Duplicate),
+            Counter::NoRoute => Some(DropReason::NoRoute),
+            Counter::RouteGone => Some(DropReason::RouteGone),
+            Counter::BackToSender => Some(DropReason::BackToSender),
+            Counter::Expired => Some(DropReason::Expired),
+            _ => None,
+        }
+    }
+}
+
 /// What a router answers to an event.
 #[derive(Debug, Drop)]
 pub enum Reply<A: Allocator = Global> {
@@ -39,7 +61,7 @@ pub enum Reply<A: Allocator = Global> {
     Admitted(Ticket),
     /// As many descriptors are in flight as may be; this one is gone.
     Busy,
-    /// As many descriptors of this connection are in flight as one connection may have; this one is gone.
+    /// As many of this connection are in flight as one may have; this one is gone.
     Crowded,
     /// What was sent on, and whether the local servent gets it too.
     Routed { sends: Sends<A>, local: bool },
@@ -53,7 +75,46 @@ pub enum Reply<A: Allocator = Global> {
 
 impl<A: Allocator> Reply<A> {
     ghost use Rattle.gn_rules.specs.History.{admitted_of, connected_of, is_routed_reply, is_sent_reply, dropped_of, sends_of};
+    ghost use Rattle.gn_rules.specs.Fits.{is_at_threshold};
+    ghost use Rattle.gn_rules.specs.Plain.{is_plain, number_of, plain_of};
     ghost use Rattle.gn_rules.specs.SeenEntries.{keeps};
+
+    /// The plain reply of a counter and a number.
+    pub fn plain(counter: Counter, number: Option<u32>) -> Option<Reply<A>>
+        ensures { result ≡ plain_of counter number }
+    {
+        match (counter, number) {
+            (Counter::Connected, Some(c)) => Some(Reply::Connected(c)),
+            (Counter::TooMany, None) => Some(Reply::TooMany),
+            (Counter::Closed, Some(count)) => Some(Reply::Closed(count)),
+            (Counter::Admitted, Some(t)) => Some(Reply::Admitted(t)),
+            (Counter::Busy, None) => Some(Reply::Busy),
+            (Counter::Crowded, None) => Some(Reply::Crowded),
+            _ => None,
+        }
+    }
+
+    /// Whether its counter and its number say all of it: it has no packets and no reason.
+    pub fn is_plain(&self) -> bool
+        ensures { result ≡ is_plain self.now }
+    {
+        !matches!(
+            self,
+            Reply::Routed { .. } | Reply::Dropped(_) | Reply::Taken(_) | Reply::Sent(_)
+        )
+    }
+
+    /// Its number: a connection, how many packets were discarded, or a ticket.
+    pub fn number(&self) -> Option<u32>
+        ensures { result ≡ number_of self.now }
+    {
+        match self {
+            Reply::Connected(number) | Reply::Closed(number) | Reply::Admitted(number) => {
+                Some(*number)
+            }
+            _ => None,
+        }
+    }
 
     /// The connection that it made.
     pub fn connected(&self) -> Option<ConnId>
@@ -85,6 +146,13 @@ impl<A: Allocator> Reply<A> {
         }
     }
 
+    /// Whether it says that a threshold is reached, that of all or that of one connection.
+    pub fn is_at_threshold(&self) -> bool
+        ensures { result ≡ is_at_threshold self.now }
+    {
+        matches!(self, Reply::Busy | Reply::Crowded)
+    }
+
     /// Whether it says that a descriptor was routed.
     pub fn is_routed(&self) -> bool
         ensures { result ≡ is_routed_reply self.now }
@@ -104,9 +172,9 @@ impl<A: Allocator> Reply<A> {
     pub fn keeps(&self, kind: Kind) -> bool
         ensures { result ≡ keeps kind self.now }
     {
-        match kind {
-            Kind::Ping | Kind::Query => self.is_routed(),
-            Kind::Push => !matches!(
+        match Routing::of(kind) {
+            Routing::Floods => self.is_routed(),
+            Routing::Pushed => !matches!(
                 self,
                 Reply::Dropped(DropReason::Malformed | DropReason::Duplicate)
             ),
@@ -147,5 +215,32 @@ impl<A: Allocator + Copy> Reply<A> {
             Reply::Taken(packet) => Reply::Taken(packet.copy()?),
             Reply::Sent(sends) => Reply::Sent(sends.copy(alloc)?),
         })
+    }
+}
+
+/// Whether two replies are equal, each send and each byte of a packet with them.
+pub fn is_same_reply<A: Allocator>(a: &Reply<A>, b: &Reply<A>) -> bool
+    ensures { IsTrue result ↔ (a.now ≡ b.now) }
+{
+    match (a, b) {
+        (Reply::Connected(c), Reply::Connected(d)) => c == d,
+        (Reply::TooMany, Reply::TooMany) => true,
+        (Reply::Closed(count), Reply::Closed(other)) => count == other,
+        (Reply::Admitted(t), Reply::Admitted(u)) => t == u,
+        (Reply::Busy, Reply::Busy) => true,
+        (Reply::Crowded, Reply::Crowded) => true,
+        (
+            Reply::Routed { sends, local },
+            Reply::Routed {
+                sends: others,
+                local: here,
+            },
+        ) => local == here && are_same_sends(sends.as_slice(), others.as_slice()),
+        (Reply::Dropped(reason), Reply::Dropped(other)) => reason == other,
+        (Reply::Taken(packet), Reply::Taken(other)) => packet.is_same(other),
+        (Reply::Sent(sends), Reply::Sent(others)) => {
+            are_same_sends(sends.as_slice(), others.as_slice())
+        }
+        _ => false,
     }
 }

@@ -1,6 +1,6 @@
 //! The packets that one reply sends.
 
-ghost use Rattle.std.specs.Prelude.{◌≡◌, IfOk};
+ghost use Rattle.std.specs.Prelude.{◌≡◌, ◌↔◌, IfOk, IsTrue};
 
 use crate::event::ConnId;
 use gn_wire::Descriptor;
@@ -111,4 +111,26 @@ impl<A: Allocator + Copy> Sends<A> {
     {
         Sends::copied(alloc, self.as_slice())
     }
+}
+
+/// Whether two lists of sends are equal.
+pub(crate) fn are_same_sends<A: Allocator>(xs: &[Sending<A>], ys: &[Sending<A>]) -> bool
+    ensures { IsTrue result ↔ (xs.now ≡ ys.now) }
+{
+    if xs.len() != ys.len() {
+        return false;
+    }
+    for i in 0..xs.len() {
+        if !is_same_sending(&xs[i], &ys[i]) {
+            return false;
+        }
+    }
+    true
+}
+
+/// Whether two sends are equal.
+fn is_same_sending<A: Allocator>(x: &Sending<A>, y: &Sending<A>) -> bool
+    ensures { IsTrue result ↔ (x.now ≡ y.now) }
+{
+    x.to == y.to && x.packet.is_same(&y.packet) && x.queued == y.queued
 }

@@ -27,25 +27,11 @@ pub enum Counter {
     Sent,
 }
 
-/// The number of steps with each reply or reason to drop.
+/// How many steps each counter counted.
 #[derive(Clone, Copy, Debug, PartialEq, Eq)]
 pub struct Stats {
-    pub connected: u32,
-    pub toomany: u32,
-    pub closed: u32,
-    pub admitted: u32,
-    pub busy: u32,
-    pub crowded: u32,
-    pub routed: u32,
-    pub unknownkind: u32,
-    pub malformed: u32,
-    pub duplicate: u32,
-    pub noroute: u32,
-    pub routegone: u32,
-    pub backtosender: u32,
-    pub expired: u32,
-    pub taken: u32,
-    pub sent: u32,
+    /// In the order of `Counter::ALL`.
+    pub counts: [u32; 16],
 }
 
 impl Counter {
@@ -108,48 +94,14 @@ impl Stats {
     pub fn new() -> Stats
         ensures { result ≡ no_stats }
     {
-        Stats {
-            connected: 0,
-            toomany: 0,
-            closed: 0,
-            admitted: 0,
-            busy: 0,
-            crowded: 0,
-            routed: 0,
-            unknownkind: 0,
-            malformed: 0,
-            duplicate: 0,
-            noroute: 0,
-            routegone: 0,
-            backtosender: 0,
-            expired: 0,
-            taken: 0,
-            sent: 0,
-        }
+        Stats { counts: [0; 16] }
     }
 
     /// The number of a counter.
     pub fn get(&self, counter: Counter) -> u32
         ensures { result ≡ count_in counter self.now }
     {
-        match counter {
-            Counter::Connected => self.connected,
-            Counter::TooMany => self.toomany,
-            Counter::Closed => self.closed,
-            Counter::Admitted => self.admitted,
-            Counter::Busy => self.busy,
-            Counter::Crowded => self.crowded,
-            Counter::Routed => self.routed,
-            Counter::UnknownKind => self.unknownkind,
-            Counter::Malformed => self.malformed,
-            Counter::Duplicate => self.duplicate,
-            Counter::NoRoute => self.noroute,
-            Counter::RouteGone => self.routegone,
-            Counter::BackToSender => self.backtosender,
-            Counter::Expired => self.expired,
-            Counter::Taken => self.taken,
-            Counter::Sent => self.sent,
-        }
+        self.counts[counter as usize]
     }
 
     /// Counts one more, at most up to the last u32, which no history reaches.
@@ -157,24 +109,8 @@ impl Stats {
         ensures more { count_in counter self.old + 1 < 2 ^ 32 → self.new ≡ raised counter self.old }
         ensures last { count_in counter self.old + 1 ≡ 2 ^ 32 → self.new ≡ self.old }
     {
-        match counter {
-            Counter::Connected => self.connected = one_more(self.connected),
-            Counter::TooMany => self.toomany = one_more(self.toomany),
-            Counter::Closed => self.closed = one_more(self.closed),
-            Counter::Admitted => self.admitted = one_more(self.admitted),
-            Counter::Busy => self.busy = one_more(self.busy),
-            Counter::Crowded => self.crowded = one_more(self.crowded),
-            Counter::Routed => self.routed = one_more(self.routed),
-            Counter::UnknownKind => self.unknownkind = one_more(self.unknownkind),
-            Counter::Malformed => self.malformed = one_more(self.malformed),
-            Counter::Duplicate => self.duplicate = one_more(self.duplicate),
-            Counter::NoRoute => self.noroute = one_more(self.noroute),
-            Counter::RouteGone => self.routegone = one_more(self.routegone),
-            Counter::BackToSender => self.backtosender = one_more(self.backtosender),
-            Counter::Expired => self.expired = one_more(self.expired),
-            Counter::Taken => self.taken = one_more(self.taken),
-            Counter::Sent => self.sent = one_more(self.sent),
-        }
+        let place = counter as usize;
+        self.counts[place] = one_more(self.counts[place]);
     }
 }
 

@@ -9,8 +9,8 @@ ghost use Rattle.gn_search.specs.Place.{before_after, is_before, place, place_af
 ghost use Rattle.gn_search.specs.Views.{guid, hit_seen};
 
 use crate::admitted::admission_in;
-use gn_rules::{Config, ConnId, Reply, Step};
-use gn_wire::{Guid, Kind};
+use gn_rules::{Config, ConnId, Reply, Step, is_query_hit};
+use gn_wire::Guid;
 use std::alloc::Allocator;
 
 /// The bytes of the servent that a step names after this history, and the connection that leads to it.
@@ -22,7 +22,7 @@ fn hit_in<'a, A: Allocator>(history: &'a [Step<A>], step: &Step<A>) -> Option<(&
         return None;
     };
     let (origin, packet) = admission_in(history, t)?;
-    if packet.kind() != Kind::QueryHit {
+    if !is_query_hit(packet.kind()) {
         return None;
     }
     let payload = packet.payload().as_slice();

@@ -64,8 +64,7 @@ pub record IsServedToAny {A Q : Type 0} (again pings : Bool) (batch : ℕ) (s : 
   pub answered : IsKeptAnswer s workers (IsOpenFault true workers) (λ _. ⊤) (λ _. ⊤) (λ q. known_report (account_of q)) halted_views answer
   pub account : IfOk answer (λ q. IsAnyAccount again pings batch s peers workers (account_of q))
 
--- the account of a run that went on with the steps of before: its history is legal, those steps with it, and its links came as those of
--- any such run
+-- the account of a run that may have gone on with steps of before: its history is legal, and its links came as those of any such run
 abbrev pub IsResumedAccount : {A : Type 0} → Bool → Config → List SocketAddr → ℕ → OpenAccount TcpReading TcpWriting A → Type 0
 IsResumedAccount again s peers workers account =
     IsRecalledAnswer tcp_views (λ origin. origin.0) s workers (IsLinkOf again peers) account

@@ -50,12 +50,12 @@ impl<'a, G: Gate, R: Wait + Clock, A: Allocator> Gate for Counted<'a, G, R, A> {
 
     fn made(&self, place: Place, step: Made) {
         self.watch.made(place, step);
-        if let (Made::Crowded, Some(floods)) = (step, &self.stops.floods) {
+        if let (Made::Refused { own: true }, Some(floods)) = (step, &self.stops.floods) {
             floods.add(place);
         }
         if let Some(owed) = &self.stops.owed {
             owed.made(step);
-            if let Made::Admitted(_) | Made::Busy | Made::Crowded = step {
+            if let Made::Admitted(_) | Made::Refused { .. } = step {
                 self.stops.stop.brake().offered(place.slot);
             }
             self.stops.look();

@@ -153,7 +153,7 @@ impl Owed {
             Made::Taken => {
                 self.waiting.fetch_sub(1, Ordering::SeqCst);
             }
-            Made::Connected | Made::TooMany | Made::Busy | Made::Crowded | Made::Closed => {}
+            Made::Connected | Made::TooMany | Made::Refused { .. } | Made::Closed => {}
         }
         self.steps.fetch_add(steps_of(step), Ordering::SeqCst);
     }
@@ -177,9 +177,11 @@ impl Owed {
         let nine_tenths = self.most / 10 * 9;
         // one that each link has just given, one that it is about to give, and a Ping of the own servent
         let next = read.saturating_mul(2).saturating_add(each);
+        // a read of each link that is there: one that comes is counted before it reads
+        let pieces = present.saturating_mul(each).saturating_mul(PIECE);
         if steps >= nine_tenths || held.saturating_add(next) >= self.most {
             Nearness::Due
-        } else if owed.saturating_add(read.saturating_mul(PIECE)) >= nine_tenths {
+        } else if owed.saturating_add(pieces) >= nine_tenths {
             Nearness::Near
         } else {
             Nearness::Far

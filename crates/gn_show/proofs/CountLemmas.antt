@@ -1,7 +1,6 @@
 -- Steps of a history that are counted one by one.
-use Rattle.std.proofs.Common.{◌≡◌, ◌<◌, ◌≤◌, ◌+◌, ◌++◌, ◌∙◌, ℕ, List, [], ◌∷◌, length, reverse, refl, sym, ap, subst, arith, append-nil, length-append, IfErr, IfOk, IfSome, Option, Some, None, Result, Ok, Err}
+use Rattle.std.proofs.Common.{◌≡◌, ◌<◌, ◌+◌, ◌++◌, ◌∙◌, ℕ, List, [], ◌∷◌, length, reverse, refl, sym, ap, subst, arith, append-nil, length-append, IfErr, IfOk, IfSome, Option, Some, None, Result, Ok, Err}
 use Rattle.std.proofs.lemmas.List.{length-reverse, reverse-append}
-use Rattle.std.proofs.lemmas.List.Sums.{length-filter, count_by-le-length}
 use Rattle.std.proofs.KnownBytes.{Keeps-refl}
 use Rattle.std.specs.Io.KnownBytes.{Appends}
 use Rattle.std.specs.Prelude.{IsOk, OnOk}
@@ -14,14 +13,13 @@ use Rattle.gn_rules.specs.declared.config.Config.{Config}
 use Rattle.gn_rules.specs.declared.config.Own.{Own as Servent}
 use Rattle.gn_rules.specs.declared.limits.Numbers.{Numbers}
 use Rattle.gn_rules.specs.declared.receipt.Step.{Step}
-use Rattle.gn_rules.specs.declared.statistics.Counter.{Counter}
 use Rattle.gn_rules.specs.declared.statistics.Stats.{Stats}
-use Rattle.gn_rules.specs.Statistics.{count_in, counter_of, is_same_counter, no_stats, raised, stats_of}
-use Rattle.gn_rules.proofs.CounterLemmas.{counters_count}
+use Rattle.gn_rules.specs.Statistics.{count_in, counter_of, no_stats, raised, stats_of}
+use Rattle.gn_rules.proofs.CounterLemmas.{count_few, stats_more}
 use Rattle.gn_text.specs.declared.fault.CaptureFault.{CaptureFault}
 use Rattle.gn_text.specs.declared.fault.CaptureRefusal.{CaptureRefusal}
 use Rattle.gn_text.specs.declared.fault.CaptureRefusal.TheVariants as refusal
-use Rattle.gn_text.specs.declared.title.Text.TheVariants.{History}
+use Rattle.gn_numbers.specs.declared.titles.Text.TheVariants.{History}
 use Rattle.gn_text.specs.Faults.{IsRefused}
 use Rattle.gn_text.specs.Header.{header_of}
 use Rattle.gn_text.specs.Parsed.{Numbered}
@@ -56,11 +54,6 @@ none_known left = same (steps_left left) where
 pub all_known : (made : List (Step Global)) (left : Numbered) (all : Result (List (Step Global)) CaptureFault) → known made left ≡ all → steps_left {A = Global} left ≡ Ok [] → all ≡ Ok (made ++ [])
 all_known made left all is none = sym is ∙ ap (map_result (λ more. made ++ more)) none
 
--- no counter exceeds the number of steps
-few_counted : (k : Counter) (past : List (Step Global)) → count_in k (stats_of past) ≤ length past
-few_counted k past =
-    omega (arith, counters_count Global past k, length-filter (λ step. is_same_counter (counter_of step.reply) k) past, count_by-le-length (λ step. is_same_counter (counter_of step.reply) k) past)
-
 -- steps stand before what is left, with it they are all, and these are their counters
 pub record IsCounting (stats : Stats) (index : ℕ) (left : Numbered) (all : Result (List (Step Global)) CaptureFault) : Type 0 where
   pub made : List (Step Global)
@@ -78,12 +71,14 @@ pub counting_more : (before after : Stats) (index : ℕ) (old new : Numbered) (a
 counting_more before after index old new all step counting next few more =
     let made = counting.made in
     let within : count_in (counter_of step.reply) before + 1 < 4294967296 =
-    omega (arith, few_counted (counter_of step.reply) (reverse made), ap (count_in (counter_of step.reply)) counting.counted, length-reverse made, counting.indexed, few) in
+    omega (arith, count_few (reverse made) (counter_of step.reply), ap (count_in (counter_of step.reply)) counting.counted, length-reverse made, counting.indexed, few) in
     record {
       made = made ++ step ∷ [];
       known = one_known made old new step next ∙ counting.known;
       indexed = omega (arith, counting.indexed, length-append made (step ∷ []));
-      counted = more within ∙ ap (raised (counter_of step.reply)) counting.counted ∙ ap stats_of (sym (reverse-append made (step ∷ [])));
+      counted =
+          more within ∙ ap (raised (counter_of step.reply)) counting.counted ∙ sym (stats_more step (reverse made))
+          ∙ ap stats_of (sym (reverse-append made (step ∷ [])));
     }
 
 -- steps were counted as they were read

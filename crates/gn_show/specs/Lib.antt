@@ -6,7 +6,6 @@ pub mod Shown
 pub mod Subjects
 pub mod Times
 pub mod Values
-pub mod Words
 pub mod Writers
 -- Words of the proofs.
 pub mod Showing

@@ -11,17 +11,21 @@ use Rattle.serde_json.specs.Written.{compact_text}
 use Rattle.gn_wire.specs.Packet.{Packet}
 use Rattle.gn_wire.specs.declared.kind.Guid.{Guid}
 use Rattle.gn_wire.specs.declared.kind.Kind.{Kind}
-use Rattle.gn_wire.specs.declared.kind.Kind.TheVariants.{Ping, Pong, Push, Query, QueryHit, Unknown}
-use Rattle.gn_payload.specs.Fields.{QueryFields, ResultFields, HitFields, number_at, bytes_at, push_servent}
-use Rattle.gn_payload.specs.Reading.{query_reading, hit_reading}
+use Rattle.gn_wire.specs.declared.kind.Kind.TheVariants.{Unknown}
+use Rattle.gn_payload.specs.declared.pong.Pong.{Pong}
+use Rattle.gn_payload.specs.declared.push.Push.{Push}
+use Rattle.gn_payload.specs.Fields.{QueryFields, ResultFields, HitFields}
+use Rattle.gn_payload.specs.Reading.{Read, reading}
+use Rattle.gn_payload.specs.Reading.Read.{Empty, OfPong, OfPush, OfQuery, OfHit}
 use Rattle.gn_rules.specs.declared.event.Event.{Event}
 use Rattle.gn_rules.specs.declared.event.Event.TheVariants as event
 use Rattle.gn_rules.specs.declared.receipt.Step.{Step}
 use Rattle.gn_rules.specs.declared.reply.Reply.{Reply}
 use Rattle.gn_rules.specs.declared.reply.Reply.TheVariants as reply
 use Rattle.gn_rules.specs.declared.sends.Sending.{Sending}
+use Rattle.gn_rules.specs.Statistics.{counter_of}
+use Rattle.gn_numbers.specs.Names.{counter_name, kind_names, reason_name}
 use Rattle.gn_text.specs.Addresses.{ip_text}
-use Rattle.gn_text.specs.Steps.{reason_text}
 
 -- a text at the right of a column; a longer one stands whole
 abbrev pub shifted : ℕ → List ℕ → List ℕ
@@ -53,16 +57,14 @@ abbrev pub text_words : List ℕ → List ℕ
 text_words text = if is_utf8 text then flat_map char_words (chars (compact_text (string text))) else codes "hex " ++ encode_lower text
 
 -- the payload of a Pong
-abbrev pub pong_words : List ℕ → List ℕ
-pong_words bytes =
-    codes " " ++ place_words (bytes_at 4 2 bytes) (number_at 2 0 bytes) ++ codes " " ++ decimal (number_at 4 6 bytes)
-    ++ codes " files " ++ decimal (number_at 4 10 bytes) ++ codes " kB"
+abbrev pub pong_words : Pong → List ℕ
+pong_words p =
+    codes " " ++ place_words p.ip p.port ++ codes " " ++ decimal p.files ++ codes " files " ++ decimal p.kbytes ++ codes " kB"
 
 -- the payload of a Push
-abbrev pub push_words : List ℕ → List ℕ
-push_words bytes =
-    codes " servent " ++ id_words (push_servent bytes) ++ codes " file " ++ decimal (number_at 4 16 bytes)
-    ++ codes " to " ++ place_words (bytes_at 4 20 bytes) (number_at 2 24 bytes)
+abbrev pub push_words : Push → List ℕ
+push_words p =
+    codes " servent " ++ id_words p.servent ++ codes " file " ++ decimal p.file ++ codes " to " ++ place_words p.ip p.port
 
 -- the payload of a Query
 abbrev pub query_words : QueryFields → List ℕ
@@ -87,34 +89,33 @@ hit_words h =
 abbrev pub unread_words : List ℕ → List ℕ
 unread_words bytes = codes " unread " ++ encode_lower bytes
 
--- a payload that is read, where it has a reading
-abbrev pub read_words : {X : Type 0} → List ℕ → (X → List ℕ) → Option X → List ℕ
-read_words bytes said (Some x) = said x
-read_words bytes said None = unread_words bytes
+-- what a payload says: of a Ping nothing
+abbrev pub read_words : Read → List ℕ
+read_words Empty = []
+read_words (OfPong p) = pong_words p
+read_words (OfPush p) = push_words p
+read_words (OfQuery q) = query_words q
+read_words (OfHit h) = hit_words h
 
--- the payload of a kind
-abbrev pub payload_words : Kind → List ℕ → List ℕ
-payload_words Ping bytes = if length bytes == 0 then codes "" else unread_words bytes
-payload_words Pong bytes = if length bytes == 14 then pong_words bytes else unread_words bytes
-payload_words Push bytes = if length bytes == 26 then push_words bytes else unread_words bytes
-payload_words Query bytes = read_words bytes query_words (query_reading bytes)
-payload_words QueryHit bytes = read_words bytes hit_words (hit_reading bytes)
-payload_words (Unknown code) bytes = unread_words bytes
+-- a payload of this reading, where it has one
+abbrev pub payload_words : List ℕ → Option Read → List ℕ
+payload_words bytes (Some read) = read_words read
+payload_words bytes None = unread_words bytes
+
+-- the code of a kind that version 0.4 doesn't name
+abbrev pub code_words : Kind → List ℕ
+code_words (Unknown code) = codes " " ++ decimal code
+code_words kind = []
 
 -- a kind
 abbrev pub kind_words : Kind → List ℕ
-kind_words Ping = codes "Ping"
-kind_words Pong = codes "Pong"
-kind_words Push = codes "Push"
-kind_words Query = codes "Query"
-kind_words QueryHit = codes "Query Hit"
-kind_words (Unknown code) = codes "kind " ++ decimal code
+kind_words kind = (kind_names kind).title ++ code_words kind
 
 -- a descriptor: its kind, its TTL and Hops, its ID, and what its payload says
 abbrev pub descriptor_words : Packet → List ℕ
 descriptor_words d =
     kind_words d.kind ++ codes " " ++ decimal d.ttl ++ codes "/" ++ decimal d.hops ++ codes " " ++ id_words d.id
-    ++ payload_words d.kind d.payload
+    ++ payload_words d.payload (reading d.kind d.payload)
 
 -- what stands between a send's connection and its descriptor: it was queued, or lost
 abbrev pub queued_words : Bool → List ℕ
@@ -143,18 +144,17 @@ abbrev pub routed_words : Bool → List ℕ
 routed_words true = codes "routed here"
 routed_words false = codes "routed"
 
--- a reply
+-- a reply; one that has nothing to add is the name of its counter
 abbrev pub reply_words : Reply Global → List ℕ
 reply_words (reply.Connected c) = codes "connected as " ++ decimal c
 reply_words reply.TooMany = codes "too many"
 reply_words (reply.Closed count) = codes "closed, discarded " ++ decimal count
 reply_words (reply.Admitted t) = codes "admitted as #" ++ decimal t
-reply_words reply.Busy = codes "busy"
-reply_words reply.Crowded = codes "crowded"
 reply_words (reply.Routed sends local) = routed_words local ++ sends_words sends
-reply_words (reply.Dropped reason) = codes "dropped " ++ reason_text reason
+reply_words (reply.Dropped reason) = codes "dropped " ++ reason_name reason
 reply_words (reply.Taken d) = descriptor_words d
 reply_words (reply.Sent sends) = codes "sent" ++ sends_words sends
+reply_words r = counter_name (counter_of r)
 
 -- the line of a step, in columns: its index, its actor, its event and its reply
 abbrev pub plain_line : ℕ → Step Global → List ℕ

@@ -13,10 +13,10 @@ use Rattle.gn_rules.specs.declared.receipt.Step.{Step}
 use Rattle.gn_rules.specs.declared.reply.Reply.{Reply}
 use Rattle.gn_rules.specs.declared.reply.Reply.TheVariants as reply
 use Rattle.gn_rules.specs.declared.sends.Sending.{Sending}
-use Rattle.gn_text.specs.Steps.{reason_text}
+use Rattle.gn_rules.specs.Statistics.{counter_of}
+use Rattle.gn_numbers.specs.Names.{counter_name, event_name, kind_names, word_of}
 use Rattle.gn_show.specs.Subjects.{subject, waiting}
 use Rattle.gn_show.specs.Times.{Place}
-use Rattle.gn_show.specs.Words.{kind_name}
 
 -- what a row says of a packet: from which connection it came, to which it goes, 0 for this router, and whether it was queued there
 pub record Row : Type 0 where
@@ -38,29 +38,7 @@ queued_field (Some false) = codes "0"
 -- the kind of a packet, its ID, its TTL and Hops, and the length of its payload
 abbrev pub packet_fields : Option Packet → List (List ℕ)
 packet_fields None = [] ∷ [] ∷ [] ∷ [] ∷ [] ∷ []
-packet_fields (Some d) = kind_name d.kind ∷ encode_lower d.id.0 ∷ decimal d.ttl ∷ decimal d.hops ∷ decimal (length d.payload) ∷ []
-
--- an event in a word
-abbrev pub event_word : Event Global → List ℕ
-event_word event.Connect = codes "connect"
-event_word (event.Close c) = codes "close"
-event_word (event.Admit c d) = codes "admit"
-event_word (event.Route t) = codes "route"
-event_word (event.Take c) = codes "take"
-event_word (event.Originate d) = codes "originate"
-
--- a reply in a word; of a drop the reason
-abbrev pub reply_word : Reply Global → List ℕ
-reply_word (reply.Connected c) = codes "connected"
-reply_word reply.TooMany = codes "toomany"
-reply_word (reply.Closed count) = codes "closed"
-reply_word (reply.Admitted t) = codes "admitted"
-reply_word reply.Busy = codes "busy"
-reply_word reply.Crowded = codes "crowded"
-reply_word (reply.Routed sends local) = codes "routed"
-reply_word (reply.Dropped reason) = reason_text reason
-reply_word (reply.Taken d) = codes "taken"
-reply_word (reply.Sent sends) = codes "sent"
+packet_fields (Some d) = (kind_names d.kind).json ∷ encode_lower d.id.0 ∷ decimal d.ttl ∷ decimal d.hops ∷ decimal (length d.payload) ∷ []
 
 -- whose output an event takes from
 abbrev pub taker : Event Global → Option ℕ
@@ -87,21 +65,20 @@ send_row a s = record { from = origin_of a; to = Some s.to; packet = Some s.pack
 abbrev pub taken_row : Event Global → Packet → Row
 taken_row event d = record { from = None; to = taker event; packet = Some d; queued = None }
 
--- the rows of a step whose event speaks of this packet
+-- the rows of a step whose event speaks of this packet; where the packet is admitted, refused or dropped it has one of its own
 abbrev pub rows_by : Option Admission → Event Global → Reply Global → List Row
-rows_by a event (reply.Admitted t) = own_row a None ∷ []
-rows_by a event reply.Busy = own_row a None ∷ []
-rows_by a event reply.Crowded = own_row a None ∷ []
-rows_by a event (reply.Dropped reason) = own_row a None ∷ []
+rows_by a event (reply.Connected c) = []
+rows_by a event reply.TooMany = []
+rows_by a event (reply.Closed count) = []
 rows_by a event (reply.Routed sends local) = map (send_row a) sends ++ (if local then own_row a (Some 0) ∷ [] else [])
 rows_by a event (reply.Sent sends) = map (send_row a) sends
 rows_by a event (reply.Taken d) = taken_row event d ∷ []
-rows_by a event reply = []
+rows_by a event r = own_row a None ∷ []
 
 -- the line of a row of a step
 abbrev pub row_line : Place → Step Global → Row → List ℕ
 row_line place step row =
-    row_text default_writer (decimal place.index ∷ place.time ∷ decimal step.actor ∷ event_word step.event ∷ reply_word step.reply
+    row_text default_writer (decimal place.index ∷ place.time ∷ decimal step.actor ∷ event_name (word_of step.event) ∷ counter_name (counter_of step.reply)
     ∷ number_field row.from ∷ number_field row.to ∷ (packet_fields row.packet ++ (queued_field row.queued ∷ [])))
 
 -- the line of the packet that a step's event speaks of

@@ -12,7 +12,7 @@ use Rattle.gn_text.specs.Statistics.{stats_text}
 use Rattle.gn_capture.specs.Histories.{history_of}
 use Rattle.gn_io.specs.Parts.{AppendsPart}
 use Rattle.gn_io.specs.Streams.{HasWriteFailed, NoneFailed, Streams, text_of as text_given}
-use Rattle.gn_text.specs.declared.title.Text.TheVariants.{History}
+use Rattle.gn_numbers.specs.declared.titles.Text.TheVariants.{History}
 use Rattle.gn_text.specs.Header.{header_of}
 use Rattle.gn_text.specs.Parsed.{line_after, parsed_of}
 use Rattle.gn_stream.specs.Entries.{begun_after}

@@ -1,15 +1,16 @@
 -- What a step is as JSON. The members of an object ascend by their names.
-use Rattle.std.specs.Prelude.{ℕ, ◌==◌, if◌then◌else◌, List, map, length, codes, Option, Some, None}
+use Rattle.std.specs.Prelude.{ℕ, if◌then◌else◌, List, map, codes, Option, Some, None}
 use Rattle.std.specs.Str.{is_utf8}
 use Rattle.std.specs.declared.alloc.Global.{Global}
 use Rattle.hex.specs.Hex.{encode_lower}
 use Rattle.serde_json.specs.Data.{Data, number, unsigned, boolean, string, array, object, Members, member, no_members}
 use Rattle.serde_json.specs.View.{items_of}
 use Rattle.gn_wire.specs.Packet.{code_of, Packet}
-use Rattle.gn_wire.specs.declared.kind.Kind.{Kind}
-use Rattle.gn_wire.specs.declared.kind.Kind.TheVariants.{Ping, Pong, Push, Query, QueryHit, Unknown}
-use Rattle.gn_payload.specs.Fields.{QueryFields, ResultFields, HitFields, number_at, bytes_at, push_servent}
-use Rattle.gn_payload.specs.Reading.{query_reading, hit_reading}
+use Rattle.gn_payload.specs.declared.pong.Pong.{Pong}
+use Rattle.gn_payload.specs.declared.push.Push.{Push}
+use Rattle.gn_payload.specs.Fields.{QueryFields, ResultFields, HitFields}
+use Rattle.gn_payload.specs.Reading.{Read, reading}
+use Rattle.gn_payload.specs.Reading.Read.{Empty, OfPong, OfPush, OfQuery, OfHit}
 use Rattle.gn_rules.specs.Flight.{Admission}
 use Rattle.gn_rules.specs.declared.event.Event.{Event}
 use Rattle.gn_rules.specs.declared.event.Event.TheVariants as event
@@ -17,9 +18,9 @@ use Rattle.gn_rules.specs.declared.receipt.Step.{Step}
 use Rattle.gn_rules.specs.declared.reply.Reply.{Reply}
 use Rattle.gn_rules.specs.declared.reply.Reply.TheVariants as reply
 use Rattle.gn_rules.specs.declared.sends.Sending.{Sending}
+use Rattle.gn_rules.specs.Statistics.{counter_of}
+use Rattle.gn_numbers.specs.Names.{counter_name, event_name, kind_names, word_of}
 use Rattle.gn_text.specs.Addresses.{ip_text}
-use Rattle.gn_text.specs.Steps.{reason_text}
-use Rattle.gn_show.specs.Words.{kind_name}
 
 -- a number
 abbrev pub number_data : ℕ → Data
@@ -39,18 +40,16 @@ text_member name hex_name text more =
     if is_utf8 text then member name (string text) more else member hex_name (hex_data text) more
 
 -- the payload of a Pong
-abbrev pub pong_data : List ℕ → Data
-pong_data bytes =
-    object (member (codes "files") (number_data (number_at 4 6 bytes)) (member (codes "ip") (ip_data (bytes_at 4 2 bytes))
-    (member (codes "kilobytes") (number_data (number_at 4 10 bytes)) (member (codes "port") (number_data (number_at 2 0 bytes))
-    no_members))))
+abbrev pub pong_data : Pong → Data
+pong_data p =
+    object (member (codes "files") (number_data p.files) (member (codes "ip") (ip_data p.ip)
+    (member (codes "kilobytes") (number_data p.kbytes) (member (codes "port") (number_data p.port) no_members))))
 
 -- the payload of a Push
-abbrev pub push_data : List ℕ → Data
-push_data bytes =
-    object (member (codes "index") (number_data (number_at 4 16 bytes)) (member (codes "ip") (ip_data (bytes_at 4 20 bytes))
-    (member (codes "port") (number_data (number_at 2 24 bytes)) (member (codes "servent") (hex_data (push_servent bytes).0)
-    no_members))))
+abbrev pub push_data : Push → Data
+push_data p =
+    object (member (codes "index") (number_data p.file) (member (codes "ip") (ip_data p.ip)
+    (member (codes "port") (number_data p.port) (member (codes "servent") (hex_data p.servent.0) no_members))))
 
 -- the payload of a Query
 abbrev pub query_data : QueryFields → Data
@@ -75,26 +74,26 @@ hit_data h =
 abbrev pub unread_data : List ℕ → Data
 unread_data bytes = object (member (codes "unread_hex") (hex_data bytes) no_members)
 
--- a payload that is read, where it has a reading
-abbrev pub or_unread : {X : Type 0} → List ℕ → (X → Data) → Option X → Data
-or_unread bytes said (Some x) = said x
-or_unread bytes said None = unread_data bytes
+-- what a payload says: of a Ping an object of nothing
+abbrev pub read_data : Read → Data
+read_data Empty = object no_members
+read_data (OfPong p) = pong_data p
+read_data (OfPush p) = push_data p
+read_data (OfQuery q) = query_data q
+read_data (OfHit h) = hit_data h
 
--- the payload of a kind
-abbrev pub payload_data : Kind → List ℕ → Data
-payload_data Ping bytes = if length bytes == 0 then object no_members else unread_data bytes
-payload_data Pong bytes = if length bytes == 14 then pong_data bytes else unread_data bytes
-payload_data Push bytes = if length bytes == 26 then push_data bytes else unread_data bytes
-payload_data Query bytes = or_unread bytes query_data (query_reading bytes)
-payload_data QueryHit bytes = or_unread bytes hit_data (hit_reading bytes)
-payload_data (Unknown code) bytes = unread_data bytes
+-- a payload of this reading, where it has one
+abbrev pub payload_data : List ℕ → Option Read → Data
+payload_data bytes (Some read) = read_data read
+payload_data bytes None = unread_data bytes
 
 -- a descriptor
 abbrev pub descriptor_data : Packet → Data
 descriptor_data d =
     object (member (codes "code") (number_data (code_of d.kind)) (member (codes "hops") (number_data d.hops)
-    (member (codes "id") (hex_data d.id.0) (member (codes "kind") (string (kind_name d.kind))
-    (member (codes "payload") (payload_data d.kind d.payload) (member (codes "ttl") (number_data d.ttl) no_members))))))
+    (member (codes "id") (hex_data d.id.0) (member (codes "kind") (string ((kind_names d.kind).json))
+    (member (codes "payload") (payload_data d.payload (reading d.kind d.payload)) (member (codes "ttl") (number_data d.ttl)
+    no_members))))))
 
 -- a send
 abbrev pub sending_data : Sending Global → Data
@@ -118,38 +117,44 @@ before_kind name value kind = object (member name value (member (codes "kind") (
 abbrev pub after_kind : List ℕ → List ℕ → Data → Data
 after_kind kind name value = object (member (codes "kind") (string kind) (member name value no_members))
 
--- a Route of this ticket; of an admission that waits under it also which connection brought it, and its descriptor
-abbrev pub route_data : Option Admission → ℕ → Data
-route_data None t = after_kind (codes "route") (codes "ticket") (number_data t)
-route_data (Some a) t =
+-- a Route of this ticket, behind its kind; of an admission that waits under it also which connection brought it, and its descriptor
+abbrev pub route_data : List ℕ → Option Admission → ℕ → Data
+route_data kind None t = after_kind kind (codes "ticket") (number_data t)
+route_data kind (Some a) t =
     object (member (codes "descriptor") (descriptor_data a.packet) (member (codes "from") (number_data a.origin)
-    (member (codes "kind") (string (codes "route")) (member (codes "ticket") (number_data t) no_members))))
+    (member (codes "kind") (string kind) (member (codes "ticket") (number_data t) no_members))))
+
+-- an event of this name that speaks of this packet
+abbrev pub event_as : List ℕ → Option Admission → Event Global → Data
+event_as kind a event.Connect = kind_data kind
+event_as kind a (event.Close c) = before_kind (codes "connection") (number_data c) kind
+event_as kind a (event.Admit c d) =
+    object (member (codes "connection") (number_data c) (member (codes "descriptor") (descriptor_data d)
+    (member (codes "kind") (string kind) no_members)))
+event_as kind a (event.Route t) = route_data kind a t
+event_as kind a (event.Take c) = before_kind (codes "connection") (number_data c) kind
+event_as kind a (event.Originate d) = before_kind (codes "descriptor") (descriptor_data d) kind
 
 -- an event that speaks of this packet
 abbrev pub event_data : Option Admission → Event Global → Data
-event_data a event.Connect = kind_data (codes "connect")
-event_data a (event.Close c) = before_kind (codes "connection") (number_data c) (codes "close")
-event_data a (event.Admit c d) =
-    object (member (codes "connection") (number_data c) (member (codes "descriptor") (descriptor_data d)
-    (member (codes "kind") (string (codes "admit")) no_members)))
-event_data a (event.Route t) = route_data a t
-event_data a (event.Take c) = before_kind (codes "connection") (number_data c) (codes "take")
-event_data a (event.Originate d) = before_kind (codes "descriptor") (descriptor_data d) (codes "originate")
+event_data a event = event_as (event_name (word_of event)) a event
+
+-- a reply whose counter has this name; of a drop that is the reason
+abbrev pub reply_as : List ℕ → Reply Global → Data
+reply_as kind (reply.Connected c) = before_kind (codes "connection") (number_data c) kind
+reply_as kind (reply.Closed count) = before_kind (codes "discarded") (number_data count) kind
+reply_as kind (reply.Admitted t) = after_kind kind (codes "ticket") (number_data t)
+reply_as kind (reply.Routed sends local) =
+    object (member (codes "kind") (string kind) (member (codes "local") (boolean local)
+    (member (codes "sends") (sends_data sends) no_members)))
+reply_as kind (reply.Dropped reason) = after_kind (codes "dropped") (codes "reason") (string kind)
+reply_as kind (reply.Taken d) = before_kind (codes "descriptor") (descriptor_data d) kind
+reply_as kind (reply.Sent sends) = after_kind kind (codes "sends") (sends_data sends)
+reply_as kind r = kind_data kind
 
 -- a reply
 abbrev pub reply_data : Reply Global → Data
-reply_data (reply.Connected c) = before_kind (codes "connection") (number_data c) (codes "connected")
-reply_data reply.TooMany = kind_data (codes "toomany")
-reply_data (reply.Closed count) = before_kind (codes "discarded") (number_data count) (codes "closed")
-reply_data (reply.Admitted t) = after_kind (codes "admitted") (codes "ticket") (number_data t)
-reply_data reply.Busy = kind_data (codes "busy")
-reply_data reply.Crowded = kind_data (codes "crowded")
-reply_data (reply.Routed sends local) =
-    object (member (codes "kind") (string (codes "routed")) (member (codes "local") (boolean local)
-    (member (codes "sends") (sends_data sends) no_members)))
-reply_data (reply.Dropped reason) = after_kind (codes "dropped") (codes "reason") (string (reason_text reason))
-reply_data (reply.Taken d) = before_kind (codes "descriptor") (descriptor_data d) (codes "taken")
-reply_data (reply.Sent sends) = after_kind (codes "sent") (codes "sends") (sends_data sends)
+reply_data reply = reply_as (counter_name (counter_of reply)) reply
 
 -- a step with its index, whose event speaks of this packet
 abbrev pub step_data : Option Admission → ℕ → Step Global → Data

@@ -6,8 +6,8 @@ ghost use Rattle.gn_show.specs.Tokens.{sending_tokens, tokens_of};
 ghost use Rattle.gn_show.specs.Values.{descriptor_data, sends_data};
 
 use crate::payload_json::put_payload;
-use crate::text::name_of;
 use crate::tokens::Tokens;
+use gn_numbers::kind_names;
 use gn_rules::Sending;
 use gn_wire::Descriptor;
 use std::alloc::{AllocError, Global};
@@ -25,7 +25,7 @@ pub(crate) fn put_descriptor(
     tokens.put_number("code", u32::from(kind.code()))?;
     tokens.put_number("hops", u32::from(descriptor.hops()))?;
     tokens.put_hex(alloc, "id", &descriptor.id().0)?;
-    tokens.put_text("kind", name_of(kind))?;
+    tokens.put_text("kind", kind_names(kind).json)?;
     tokens.put_name("payload")?;
     put_payload(alloc, tokens, kind, descriptor.payload().as_slice())?;
     tokens.put_number("ttl", u32::from(descriptor.ttl()))?;

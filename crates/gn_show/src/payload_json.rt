@@ -1,24 +1,23 @@
 //! Payloads as JSON.
 #![tactic(auto, using(std::proofs::Common::append_assoc))]
 
-ghost use Rattle.std.specs.Prelude.{◌≡◌, ◌++◌, ℕ, List, map, OnOk};
+ghost use Rattle.std.specs.Prelude.{◌≡◌, ◌++◌, map, OnOk};
 ghost use Rattle.serde_json.specs.Data.{array, no_members, object};
 ghost use Rattle.serde_json.specs.View.{items_of};
-ghost use Rattle.gn_payload.specs.Grammar.{IsPong, IsPush};
-ghost use Rattle.gn_payload.specs.Views.{query_fields, result_fields};
+ghost use Rattle.gn_payload.specs.Reading.{reading};
+ghost use Rattle.gn_payload.specs.Views.{payload_seen, query_fields, result_fields};
 ghost use Rattle.gn_show.specs.Tokens.{text_tokens, tokens_of};
-ghost use Rattle.gn_show.specs.Values.{hit_data, payload_data, pong_data, push_data, query_data, result_data, unread_data};
+ghost use Rattle.gn_show.specs.Values.{hit_data, payload_data, pong_data, push_data, query_data, read_data, result_data, unread_data};
 
 use crate::text::utf8;
 use crate::tokens::Tokens;
-use gn_payload::{Hit, HitResult, Pong, Push, Query, read_hit, read_pong, read_push, read_query};
+use gn_payload::{Hit, HitResult, Payload, Pong, Push, Query, read_payload};
 use gn_wire::Kind;
 use std::alloc::{AllocError, Global};
 
 /// Writes the payload of a Pong.
 fn put_pong(alloc: Global, tokens: &mut Tokens, pong: &Pong) -> Result<(), AllocError>
-    ensures { OnOk result ((bytes : List ℕ) → IsPong bytes pong.now
-        → tokens.new ≡ tokens.old ++ tokens_of (pong_data bytes)) }
+    ensures { OnOk result (tokens.new ≡ tokens.old ++ tokens_of (pong_data pong.now)) }
 {
     tokens.begin_object()?;
     tokens.put_number("files", pong.files)?;
@@ -30,8 +29,7 @@ fn put_pong(alloc: Global, tokens: &mut Tokens, pong: &Pong) -> Result<(), Alloc
 
 /// Writes the payload of a Push.
 fn put_push(alloc: Global, tokens: &mut Tokens, push: &Push) -> Result<(), AllocError>
-    ensures { OnOk result ((bytes : List ℕ) → IsPush bytes push.now
-        → tokens.new ≡ tokens.old ++ tokens_of (push_data bytes)) }
+    ensures { OnOk result (tokens.new ≡ tokens.old ++ tokens_of (push_data push.now)) }
 {
     tokens.begin_object()?;
     tokens.put_number("index", push.file)?;
@@ -123,34 +121,31 @@ fn put_empty(tokens: &mut Tokens) -> Result<(), AllocError>
     tokens.end_object()
 }
 
+/// Writes what a payload says: of a Ping an object of nothing.
+fn put_read(alloc: Global, tokens: &mut Tokens, read: &Payload<'_>) -> Result<(), AllocError>
+    ensures { OnOk result (tokens.new ≡ tokens.old ++ tokens_of (read_data (payload_seen read.now))) }
+{
+    match read {
+        Payload::Ping => put_empty(tokens),
+        Payload::Pong(pong) => put_pong(alloc, tokens, pong),
+        Payload::Push(push) => put_push(alloc, tokens, push),
+        Payload::Query(query) => put_query(alloc, tokens, query),
+        Payload::Hit(hit) => put_hit(alloc, tokens, hit),
+    }
+}
+
 /// Writes the payload of a descriptor of this kind: what its fields say, or its bytes where it has no reading.
-#[tactic(auto, using(crate::proofs::ValueLemmas::readings))]
 pub(crate) fn put_payload(
     alloc: Global,
     tokens: &mut Tokens,
     kind: Kind,
     payload: &[u8],
 ) -> Result<(), AllocError>
-    ensures { OnOk result (tokens.new ≡ tokens.old ++ tokens_of (payload_data kind payload.now)) }
+    ensures { OnOk result (tokens.new
+        ≡ tokens.old ++ tokens_of (payload_data payload.now (reading kind payload.now))) }
 {
-    match kind {
-        Kind::Ping if payload.is_empty() => put_empty(tokens),
-        Kind::Pong => match read_pong(payload) {
-            Some(pong) => put_pong(alloc, tokens, &pong),
-            None => put_unread(alloc, tokens, payload),
-        },
-        Kind::Push => match read_push(payload) {
-            Some(push) => put_push(alloc, tokens, &push),
-            None => put_unread(alloc, tokens, payload),
-        },
-        Kind::Query => match read_query(payload) {
-            Some(query) => put_query(alloc, tokens, &query),
-            None => put_unread(alloc, tokens, payload),
-        },
-        Kind::QueryHit => match read_hit(payload) {
-            Some(hit) => put_hit(alloc, tokens, &hit),
-            None => put_unread(alloc, tokens, payload),
-        },
-        _ => put_unread(alloc, tokens, payload),
+    match read_payload(kind, payload) {
+        Some(read) => put_read(alloc, tokens, &read),
+        None => put_unread(alloc, tokens, payload),
     }
 }

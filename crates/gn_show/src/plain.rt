@@ -5,10 +5,14 @@ ghost use Rattle.std.specs.Prelude.{◌≡◌, ◌++◌, IfOk, OnOk, decimal, re
 ghost use Rattle.gn_show.specs.Plain.{aligned, event_words, plain_line, reply_words, sends_words, shifted};
 
 use crate::plain_descriptor::push_descriptor;
-use crate::text::reason_word;
-use gn_rules::{Event, Reply, Sending, Step};
+use gn_numbers::{counter_name, reason_name};
+use gn_rules::{Counter, Event, Reply, Sending, Step};
 use gn_text::push_number;
+use itoa::Buffer;
 use std::alloc::{AllocError, Global};
+
+/// The bytes that a line is begun with, and an event of it.
+const ROOM: usize = 256;
 
 /// Appends words, and a number after them.
 fn push_numbered(out: &mut Vec<u8>, words: &[u8], number: u32) -> Result<(), AllocError>
@@ -29,18 +33,13 @@ fn push_spaces(out: &mut Vec<u8>, count: usize) -> Result<(), AllocError>
 }
 
 /// Appends a number at the right of a column.
-fn push_shifted(
-    alloc: Global,
-    out: &mut Vec<u8>,
-    width: usize,
-    number: u32,
-) -> Result<(), AllocError>
+fn push_shifted(out: &mut Vec<u8>, width: usize, number: u32) -> Result<(), AllocError>
     ensures { OnOk result (out.new.items ≡ out.old.items ++ shifted width (decimal number)) }
 {
-    let mut digits = Vec::new(alloc);
-    push_number(&mut digits, number)?;
+    let mut buffer = Buffer::new();
+    let digits = buffer.format(number).as_bytes();
     push_spaces(out, width.saturating_sub(digits.len()))?;
-    out.extend_from_slice(&digits)
+    out.extend_from_slice(digits)
 }
 
 /// Appends a text at the left of a column.
@@ -95,21 +94,20 @@ fn push_reply(alloc: Global, out: &mut Vec<u8>, reply: &Reply) -> Result<(), All
         Reply::TooMany => out.extend_from_slice(b"too many"),
         Reply::Closed(count) => push_numbered(out, b"closed, discarded ", *count),
         Reply::Admitted(ticket) => push_numbered(out, b"admitted as #", *ticket),
-        Reply::Busy => out.extend_from_slice(b"busy"),
-        Reply::Crowded => out.extend_from_slice(b"crowded"),
         Reply::Routed { sends, local } => {
             out.extend_from_slice(if *local { b"routed here" } else { b"routed" })?;
             push_sends(alloc, out, sends.as_slice())
         }
         Reply::Dropped(reason) => {
             out.extend_from_slice(b"dropped ")?;
-            out.extend_from_slice(reason_word(*reason).as_bytes())
+            out.extend_from_slice(reason_name(*reason).as_bytes())
         }
         Reply::Taken(descriptor) => push_descriptor(alloc, out, descriptor),
         Reply::Sent(sends) => {
             out.extend_from_slice(b"sent")?;
             push_sends(alloc, out, sends.as_slice())
         }
+        _ => out.extend_from_slice(counter_name(Counter::of(reply)).as_bytes()),
     }
 }
 
@@ -117,12 +115,12 @@ fn push_reply(alloc: Global, out: &mut Vec<u8>, reply: &Reply) -> Result<(), All
 pub(crate) fn plain_line(alloc: Global, index: u32, step: &Step) -> Result<Vec<u8>, AllocError>
     ensures { IfOk result (λ line. line.items ≡ plain_line index step.now) }
 {
-    let mut event = Vec::new(alloc);
+    let mut event = Vec::with_capacity(alloc, ROOM)?;
     push_event(alloc, &mut event, &step.event)?;
-    let mut line = Vec::new(alloc);
-    push_shifted(alloc, &mut line, 7, index)?;
+    let mut line = Vec::with_capacity(alloc, ROOM)?;
+    push_shifted(&mut line, 7, index)?;
     line.extend_from_slice(b"  actor ")?;
-    push_shifted(alloc, &mut line, 3, step.actor)?;
+    push_shifted(&mut line, 3, step.actor)?;
     line.extend_from_slice(b"  ")?;
     push_aligned(&mut line, 32, &event)?;
     line.extend_from_slice(b"  ")?;

@@ -1,17 +1,18 @@
 //! Descriptors and their payloads in plain words.
 #![tactic(auto, using(std::proofs::Common::append_assoc))]
 
-ghost use Rattle.std.specs.Prelude.{◌≡◌, ◌++◌, ℕ, List, IfOk, OnOk, string_bytes};
+ghost use Rattle.std.specs.Prelude.{◌≡◌, ◌++◌, IfOk, OnOk, string_bytes};
 ghost use Rattle.std.specs.List.{flat_map};
 ghost use Rattle.std.specs.Str.{chars};
 ghost use Rattle.serde_json.specs.Data.{string};
 ghost use Rattle.serde_json.specs.Written.{compact_text};
-ghost use Rattle.gn_payload.specs.Grammar.{IsPong, IsPush};
-ghost use Rattle.gn_payload.specs.Views.{query_fields, result_fields};
-ghost use Rattle.gn_show.specs.Plain.{acts, char_words, descriptor_words, hit_words, id_words, kind_words, payload_words, place_words, pong_words, push_words, query_words, result_words, results_words, text_words, unread_words};
+ghost use Rattle.gn_payload.specs.Reading.{reading};
+ghost use Rattle.gn_payload.specs.Views.{payload_seen, query_fields, result_fields};
+ghost use Rattle.gn_show.specs.Plain.{acts, char_words, code_words, descriptor_words, hit_words, id_words, kind_words, payload_words, place_words, pong_words, push_words, query_words, read_words, result_words, results_words, text_words, unread_words};
 
 use crate::text::utf8;
-use gn_payload::{Hit, HitResult, Pong, Push, Query, read_hit, read_pong, read_push, read_query};
+use gn_numbers::kind_names;
+use gn_payload::{Hit, HitResult, Payload, Pong, Push, Query, read_payload};
 use gn_text::{push_hex, push_ip, push_number};
 use gn_wire::{Descriptor, Guid, Kind};
 use serde_json::Value;
@@ -98,8 +99,7 @@ fn push_text(alloc: Global, out: &mut Vec<u8>, text: &[u8]) -> Result<(), AllocE
 
 /// Appends what a Pong says.
 fn push_pong(out: &mut Vec<u8>, pong: &Pong) -> Result<(), AllocError>
-    ensures { OnOk result ((bytes : List ℕ) → IsPong bytes pong.now
-        → out.new.items ≡ out.old.items ++ pong_words bytes) }
+    ensures { OnOk result (out.new.items ≡ out.old.items ++ pong_words pong.now) }
 {
     out.extend_from_slice(b" ")?;
     push_place(out, pong.ip, pong.port)?;
@@ -112,8 +112,7 @@ fn push_pong(out: &mut Vec<u8>, pong: &Pong) -> Result<(), AllocError>
 
 /// Appends what a Push says.
 fn push_push(out: &mut Vec<u8>, push: &Push) -> Result<(), AllocError>
-    ensures { OnOk result ((bytes : List ℕ) → IsPush bytes push.now
-        → out.new.items ≡ out.old.items ++ push_words bytes) }
+    ensures { OnOk result (out.new.items ≡ out.old.items ++ push_words push.now) }
 {
     out.extend_from_slice(b" servent ")?;
     push_id(out, push.servent)?;
@@ -177,35 +176,45 @@ fn push_unread(out: &mut Vec<u8>, payload: &[u8]) -> Result<(), AllocError>
     push_hex(out, payload)
 }
 
+/// Appends what a payload says: of a Ping nothing.
+fn push_read(alloc: Global, out: &mut Vec<u8>, read: &Payload<'_>) -> Result<(), AllocError>
+    ensures { OnOk result (out.new.items ≡ out.old.items ++ read_words (payload_seen read.now)) }
+{
+    match read {
+        Payload::Ping => Ok(()),
+        Payload::Pong(pong) => push_pong(out, pong),
+        Payload::Push(push) => push_push(out, push),
+        Payload::Query(query) => push_query(alloc, out, query),
+        Payload::Hit(hit) => push_hit(alloc, out, hit),
+    }
+}
+
 /// Appends what the payload of a descriptor of this kind says.
-#[tactic(auto, using(crate::proofs::ValueLemmas::readings))]
 fn push_payload(
     alloc: Global,
     out: &mut Vec<u8>,
     kind: Kind,
     payload: &[u8],
 ) -> Result<(), AllocError>
-    ensures { OnOk result (out.new.items ≡ out.old.items ++ payload_words kind payload.now) }
+    ensures { OnOk result (out.new.items
+        ≡ out.old.items ++ payload_words payload.now (reading kind payload.now)) }
+{
+    match read_payload(kind, payload) {
+        Some(read) => push_read(alloc, out, &read),
+        None => push_unread(out, payload),
+    }
+}
+
+/// Appends the code of a kind that version 0.4 doesn't name.
+fn push_code(out: &mut Vec<u8>, kind: Kind) -> Result<(), AllocError>
+    ensures { OnOk result (out.new.items ≡ out.old.items ++ code_words kind) }
 {
     match kind {
-        Kind::Ping if payload.is_empty() => Ok(()),
-        Kind::Pong => match read_pong(payload) {
-            Some(pong) => push_pong(out, &pong),
-            None => push_unread(out, payload),
-        },
-        Kind::Push => match read_push(payload) {
-            Some(push) => push_push(out, &push),
-            None => push_unread(out, payload),
-        },
-        Kind::Query => match read_query(payload) {
-            Some(query) => push_query(alloc, out, &query),
-            None => push_unread(out, payload),
-        },
-        Kind::QueryHit => match read_hit(payload) {
-            Some(hit) => push_hit(alloc, out, &hit),
-            None => push_unread(out, payload),
-        },
-        _ => push_unread(out, payload),
+        Kind::Unknown(code) => {
+            out.extend_from_slice(b" ")?;
+            push_number(out, u32::from(code))
+        }
+        _ => Ok(()),
     }
 }
 
@@ -213,17 +222,8 @@ fn push_payload(
 fn push_kind(out: &mut Vec<u8>, kind: Kind) -> Result<(), AllocError>
     ensures { OnOk result (out.new.items ≡ out.old.items ++ kind_words kind) }
 {
-    match kind {
-        Kind::Ping => out.extend_from_slice(b"Ping"),
-        Kind::Pong => out.extend_from_slice(b"Pong"),
-        Kind::Push => out.extend_from_slice(b"Push"),
-        Kind::Query => out.extend_from_slice(b"Query"),
-        Kind::QueryHit => out.extend_from_slice(b"Query Hit"),
-        Kind::Unknown(code) => {
-            out.extend_from_slice(b"kind ")?;
-            push_number(out, u32::from(code))
-        }
-    }
+    out.extend_from_slice(kind_names(kind).title.as_bytes())?;
+    push_code(out, kind)
 }
 
 /// Appends a descriptor: its kind, `TTL/HOPS`, the first four bytes of its ID, and what its payload says.

@@ -7,13 +7,13 @@ ghost use Rattle.std.specs.declared.alloc.Global.{Global};
 ghost use Rattle.hex.specs.Hex.{encode_lower};
 ghost use Rattle.gn_rules.specs.declared.receipt.Step.{Step};
 ghost use Rattle.gn_show.specs.Kept.{Follows, fields_seen, placed, row_seen, seen};
-ghost use Rattle.gn_show.specs.Rows.{event_word, lines_of, number_field, origin_of, own_line, packet_fields, packet_of, queued_field, reply_word, row_line, send_line, step_lines, taken_row, taker};
+ghost use Rattle.gn_show.specs.Rows.{lines_of, number_field, origin_of, own_line, packet_fields, packet_of, queued_field, row_line, send_line, step_lines, taken_row, taker};
 
 use crate::clock::Moment;
 use crate::flight::{Flight, Subject};
 use crate::row_writer::RowWriter;
-use crate::text::{name_of, reason_word};
-use gn_rules::{ConnId, Event, Reply, Sending, Step};
+use gn_numbers::{counter_name, event_name, kind_names};
+use gn_rules::{ConnId, Counter, Event, Reply, Sending, Step};
 use gn_text::{push_hex, push_number};
 use gn_wire::Descriptor;
 use std::alloc::{AllocError, Global};
@@ -35,38 +35,6 @@ pub(crate) struct PacketFields {
     ttl: Vec<u8>,
     hops: Vec<u8>,
     length: Vec<u8>,
-}
-
-/// An event in a word.
-fn event_word(event: &Event) -> &'static str
-    ensures { result.now ≡ event_word event.now }
-{
-    match event {
-        Event::Connect => "connect",
-        Event::Close(_) => "close",
-        Event::Admit(_, _) => "admit",
-        Event::Route(_) => "route",
-        Event::Take(_) => "take",
-        Event::Originate(_) => "originate",
-    }
-}
-
-/// A reply in a word; of a drop the reason.
-fn reply_word(reply: &Reply) -> &'static str
-    ensures { result.now ≡ reply_word reply.now }
-{
-    match reply {
-        Reply::Connected(_) => "connected",
-        Reply::TooMany => "toomany",
-        Reply::Closed(_) => "closed",
-        Reply::Admitted(_) => "admitted",
-        Reply::Busy => "busy",
-        Reply::Crowded => "crowded",
-        Reply::Routed { .. } => "routed",
-        Reply::Dropped(reason) => reason_word(*reason),
-        Reply::Taken(_) => "taken",
-        Reply::Sent(_) => "sent",
-    }
 }
 
 /// A number in decimal digits, where there is one.
@@ -123,7 +91,7 @@ fn payload_length(packet: &Descriptor) -> u32
 fn known_fields(alloc: Global, packet: &Descriptor) -> Result<PacketFields, AllocError>
     ensures { IfOk result (λ fields. fields_seen fields ≡ packet_fields (Some packet.now)) }
 {
-    let kind = copied(alloc, name_of(packet.kind()).as_bytes())?;
+    let kind = copied(alloc, kind_names(packet.kind()).json.as_bytes())?;
     let id = hex_field(alloc, &packet.id().0)?;
     let ttl = number_field(alloc, Some(u32::from(packet.ttl())))?;
     let hops = number_field(alloc, Some(u32::from(packet.hops())))?;
@@ -175,8 +143,8 @@ fn push_row(
             index.as_slice(),
             time.as_slice(),
             actor.as_slice(),
-            event_word(&step.event).as_bytes(),
-            reply_word(&step.reply).as_bytes(),
+            event_name(&step.event).as_bytes(),
+            counter_name(Counter::of(&step.reply)).as_bytes(),
             from.as_slice(),
             to.as_slice(),
             packet.kind.as_slice(),
@@ -333,9 +301,7 @@ fn push_lines(
         ≡ rows.old ++ lines_of (seen subject.entry) (placed moment.entry) step.now) }
 {
     match &step.reply {
-        Reply::Admitted(_) | Reply::Busy | Reply::Crowded | Reply::Dropped(_) => {
-            push_own(alloc, rows, moment, step, subject, None)
-        }
+        Reply::Connected(_) | Reply::TooMany | Reply::Closed(_) => Ok(()),
         Reply::Routed { sends, local } => push_routed(
             alloc,
             rows,
@@ -347,7 +313,7 @@ fn push_lines(
         ),
         Reply::Sent(sends) => push_sends(alloc, rows, moment, step, subject, sends.as_slice()),
         Reply::Taken(packet) => push_taken(alloc, rows, moment, step, packet),
-        Reply::Connected(_) | Reply::TooMany | Reply::Closed(_) => Ok(()),
+        _ => push_own(alloc, rows, moment, step, subject, None),
     }
 }
 

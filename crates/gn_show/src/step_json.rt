@@ -2,17 +2,18 @@
 #![tactic(auto, using(std::proofs::Common::append_assoc))]
 
 ghost use Rattle.std.specs.Prelude.{◌≡◌, ◌++◌, codes, None, OnOk, Some};
+ghost use Rattle.serde_json.specs.Data.{string};
 ghost use Rattle.gn_rules.specs.declared.event.Event.TheVariants.{Admit};
-ghost use Rattle.gn_rules.specs.declared.reply.Reply.TheVariants.{Closed, Dropped, Routed, Sent};
+ghost use Rattle.gn_rules.specs.declared.reply.Reply.TheVariants.{Routed};
 ghost use Rattle.gn_show.specs.Kept.{seen};
 ghost use Rattle.gn_show.specs.Tokens.{tokens_of};
-ghost use Rattle.gn_show.specs.Values.{after_kind, before_kind, descriptor_data, event_data, kind_data, number_data, reply_data, route_data, step_data};
+ghost use Rattle.gn_show.specs.Values.{after_kind, before_kind, descriptor_data, event_as, event_data, kind_data, number_data, reply_as, reply_data, route_data, sends_data, step_data};
 
 use crate::descriptor_json::{put_descriptor, put_sends};
 use crate::flight::Subject;
-use crate::text::reason_word;
 use crate::tokens::Tokens;
-use gn_rules::{DropReason, Event, Reply, Sending, Step};
+use gn_numbers::{counter_name, event_name};
+use gn_rules::{Counter, Event, Reply, Sending, Step};
 use gn_wire::Descriptor;
 use std::alloc::{AllocError, Global};
 
@@ -25,13 +26,13 @@ fn put_kind(tokens: &mut Tokens, kind: &str) -> Result<(), AllocError>
     tokens.end_object()
 }
 
-/// An event or a reply of this kind that names a connection.
-fn put_connection(tokens: &mut Tokens, c: u32, kind: &str) -> Result<(), AllocError>
+/// An event or a reply of this kind that has a number under this name and nothing else.
+fn put_numbered(tokens: &mut Tokens, name: &str, number: u32, kind: &str) -> Result<(), AllocError>
     ensures { OnOk result (tokens.new
-        ≡ tokens.old ++ tokens_of (before_kind (codes "connection") (number_data c) kind.now)) }
+        ≡ tokens.old ++ tokens_of (before_kind name.now (number_data number) kind.now)) }
 {
     tokens.begin_object()?;
-    tokens.put_number("connection", c)?;
+    tokens.put_number(name, number)?;
     tokens.put_text("kind", kind)?;
     tokens.end_object()
 }
@@ -68,16 +69,17 @@ fn put_whole(
 fn put_admit(
     alloc: Global,
     tokens: &mut Tokens,
+    kind: &str,
     c: u32,
     descriptor: &Descriptor,
 ) -> Result<(), AllocError>
-    ensures { OnOk result (tokens.new ≡ tokens.old ++ tokens_of (event_data None (Admit c descriptor.now))) }
+    ensures { OnOk result (tokens.new ≡ tokens.old ++ tokens_of (event_as kind.now None (Admit c descriptor.now))) }
 {
     tokens.begin_object()?;
     tokens.put_number("connection", c)?;
     tokens.put_name("descriptor")?;
     put_descriptor(alloc, tokens, descriptor)?;
-    tokens.put_text("kind", "admit")?;
+    tokens.put_text("kind", kind)?;
     tokens.end_object()
 }
 
@@ -85,16 +87,18 @@ fn put_admit(
 fn put_routing(
     alloc: Global,
     tokens: &mut Tokens,
+    kind: &str,
     subject: Subject<'_>,
     ticket: u32,
 ) -> Result<(), AllocError>
-    ensures { OnOk result (tokens.new ≡ tokens.old ++ tokens_of (route_data (seen (Some subject.entry)) ticket)) }
+    ensures { OnOk result (tokens.new
+        ≡ tokens.old ++ tokens_of (route_data kind.now (seen (Some subject.entry)) ticket)) }
 {
     tokens.begin_object()?;
     tokens.put_name("descriptor")?;
     put_descriptor(alloc, tokens, subject.packet)?;
     tokens.put_number("from", subject.origin)?;
-    tokens.put_text("kind", "route")?;
+    tokens.put_text("kind", kind)?;
     tokens.put_number("ticket", ticket)?;
     tokens.end_object()
 }
@@ -103,14 +107,37 @@ fn put_routing(
 fn put_route(
     alloc: Global,
     tokens: &mut Tokens,
+    kind: &str,
     subject: Option<Subject<'_>>,
     ticket: u32,
 ) -> Result<(), AllocError>
-    ensures { OnOk result (tokens.new ≡ tokens.old ++ tokens_of (route_data (seen subject.entry) ticket)) }
+    ensures { OnOk result (tokens.new
+        ≡ tokens.old ++ tokens_of (route_data kind.now (seen subject.entry) ticket)) }
 {
     match subject {
-        Some(subject) => put_routing(alloc, tokens, subject, ticket),
-        None => put_ticket(tokens, "route", ticket),
+        Some(subject) => put_routing(alloc, tokens, kind, subject, ticket),
+        None => put_ticket(tokens, kind, ticket),
+    }
+}
+
+/// An event of this name that speaks of this packet.
+fn put_event_as(
+    alloc: Global,
+    tokens: &mut Tokens,
+    kind: &str,
+    subject: Option<Subject<'_>>,
+    event: &Event,
+) -> Result<(), AllocError>
+    ensures { OnOk result (tokens.new
+        ≡ tokens.old ++ tokens_of (event_as kind.now (seen subject.entry) event.now)) }
+{
+    match event {
+        Event::Connect => put_kind(tokens, kind),
+        Event::Close(c) => put_numbered(tokens, "connection", *c, kind),
+        Event::Admit(c, descriptor) => put_admit(alloc, tokens, kind, *c, descriptor),
+        Event::Route(ticket) => put_route(alloc, tokens, kind, subject, *ticket),
+        Event::Take(c) => put_numbered(tokens, "connection", *c, kind),
+        Event::Originate(descriptor) => put_whole(alloc, tokens, descriptor, kind),
     }
 }
 
@@ -123,80 +150,83 @@ fn put_event(
 ) -> Result<(), AllocError>
     ensures { OnOk result (tokens.new ≡ tokens.old ++ tokens_of (event_data (seen subject.entry) event.now)) }
 {
-    match event {
-        Event::Connect => put_kind(tokens, "connect"),
-        Event::Close(c) => put_connection(tokens, *c, "close"),
-        Event::Admit(c, descriptor) => put_admit(alloc, tokens, *c, descriptor),
-        Event::Route(ticket) => put_route(alloc, tokens, subject, *ticket),
-        Event::Take(c) => put_connection(tokens, *c, "take"),
-        Event::Originate(descriptor) => put_whole(alloc, tokens, descriptor, "originate"),
-    }
-}
-
-/// A reply Closed, with the number of packets that were discarded.
-fn put_closed(tokens: &mut Tokens, count: u32) -> Result<(), AllocError>
-    ensures { OnOk result (tokens.new ≡ tokens.old ++ tokens_of (reply_data (Closed count))) }
-{
-    tokens.begin_object()?;
-    tokens.put_number("discarded", count)?;
-    tokens.put_text("kind", "closed")?;
-    tokens.end_object()
+    put_event_as(alloc, tokens, event_name(event), subject, event)
 }
 
 /// A reply Routed, with its sends.
 fn put_routed(
     alloc: Global,
     tokens: &mut Tokens,
+    kind: &str,
     sends: &[Sending],
     local: bool,
 ) -> Result<(), AllocError>
-    ensures { OnOk result (tokens.new ≡ tokens.old ++ tokens_of (reply_data (Routed sends.now local))) }
+    ensures { OnOk result (tokens.new ≡ tokens.old ++ tokens_of (reply_as kind.now (Routed sends.now local))) }
 {
     tokens.begin_object()?;
-    tokens.put_text("kind", "routed")?;
+    tokens.put_text("kind", kind)?;
     tokens.put_flag("local", local)?;
     tokens.put_name("sends")?;
     put_sends(alloc, tokens, sends)?;
     tokens.end_object()
 }
 
-/// A reply Dropped, with its reason.
-fn put_dropped(tokens: &mut Tokens, reason: DropReason) -> Result<(), AllocError>
-    ensures { OnOk result (tokens.new ≡ tokens.old ++ tokens_of (reply_data (Dropped reason))) }
+/// A reply Dropped, with the name of its reason.
+fn put_dropped(tokens: &mut Tokens, reason: &str) -> Result<(), AllocError>
+    ensures { OnOk result (tokens.new
+        ≡ tokens.old ++ tokens_of (after_kind (codes "dropped") (codes "reason") (string reason.now))) }
 {
     tokens.begin_object()?;
     tokens.put_text("kind", "dropped")?;
-    tokens.put_text("reason", reason_word(reason))?;
+    tokens.put_text("reason", reason)?;
     tokens.end_object()
 }
 
 /// A reply Sent, with its sends.
-fn put_sent(alloc: Global, tokens: &mut Tokens, sends: &[Sending]) -> Result<(), AllocError>
-    ensures { OnOk result (tokens.new ≡ tokens.old ++ tokens_of (reply_data (Sent sends.now))) }
+fn put_sent(
+    alloc: Global,
+    tokens: &mut Tokens,
+    kind: &str,
+    sends: &[Sending],
+) -> Result<(), AllocError>
+    ensures { OnOk result (tokens.new
+        ≡ tokens.old ++ tokens_of (after_kind kind.now (codes "sends") (sends_data sends.now))) }
 {
     tokens.begin_object()?;
-    tokens.put_text("kind", "sent")?;
+    tokens.put_text("kind", kind)?;
     tokens.put_name("sends")?;
     put_sends(alloc, tokens, sends)?;
     tokens.end_object()
+}
+
+/// A reply whose counter has this name.
+fn put_reply_as(
+    alloc: Global,
+    tokens: &mut Tokens,
+    kind: &str,
+    reply: &Reply,
+) -> Result<(), AllocError>
+    ensures { OnOk result (tokens.new ≡ tokens.old ++ tokens_of (reply_as kind.now reply.now)) }
+{
+    match reply {
+        Reply::Connected(c) => put_numbered(tokens, "connection", *c, kind),
+        Reply::Closed(count) => put_numbered(tokens, "discarded", *count, kind),
+        Reply::Admitted(ticket) => put_ticket(tokens, kind, *ticket),
+        Reply::Routed { sends, local } => {
+            put_routed(alloc, tokens, kind, sends.as_slice(), *local)
+        }
+        Reply::Dropped(_) => put_dropped(tokens, kind),
+        Reply::Taken(descriptor) => put_whole(alloc, tokens, descriptor, kind),
+        Reply::Sent(sends) => put_sent(alloc, tokens, kind, sends.as_slice()),
+        _ => put_kind(tokens, kind),
+    }
 }
 
 /// A reply.
 fn put_reply(alloc: Global, tokens: &mut Tokens, reply: &Reply) -> Result<(), AllocError>
     ensures { OnOk result (tokens.new ≡ tokens.old ++ tokens_of (reply_data reply.now)) }
 {
-    match reply {
-        Reply::Connected(c) => put_connection(tokens, *c, "connected"),
-        Reply::TooMany => put_kind(tokens, "toomany"),
-        Reply::Closed(count) => put_closed(tokens, *count),
-        Reply::Admitted(ticket) => put_ticket(tokens, "admitted", *ticket),
-        Reply::Busy => put_kind(tokens, "busy"),
-        Reply::Crowded => put_kind(tokens, "crowded"),
-        Reply::Routed { sends, local } => put_routed(alloc, tokens, sends.as_slice(), *local),
-        Reply::Dropped(reason) => put_dropped(tokens, *reason),
-        Reply::Taken(descriptor) => put_whole(alloc, tokens, descriptor, "taken"),
-        Reply::Sent(sends) => put_sent(alloc, tokens, sends.as_slice()),
-    }
+    put_reply_as(alloc, tokens, counter_name(Counter::of(reply)), reply)
 }
 
 /// Writes a step with its index, counted from 0, whose event speaks of this packet.

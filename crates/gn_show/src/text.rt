@@ -1,13 +1,9 @@
-//! Texts of payloads, and the names that stand in lines.
+//! Texts of payloads.
 
 ghost use Rattle.std.specs.Prelude.{◌≡◌, ◌++◌, true, false, decimal, string_bytes, IfOk, MatchOption, OnOk};
 ghost use Rattle.std.specs.Str.{is_utf8};
 ghost use Rattle.gn_text.specs.Addresses.{ip_text};
-ghost use Rattle.gn_text.specs.Steps.{reason_text};
-ghost use Rattle.gn_show.specs.Words.{kind_name};
 
-use gn_rules::DropReason;
-use gn_wire::Kind;
 use itoa::Buffer;
 use std::alloc::{AllocError, Global};
 use std::str;
@@ -43,33 +39,4 @@ pub(crate) fn dotted(alloc: Global, ip: [u8; 4]) -> Result<String, AllocError>
     push_part(&mut text, ".", c)?;
     push_part(&mut text, ".", d)?;
     Ok(text)
-}
-
-/// The name of a kind in JSON.
-pub(crate) fn name_of(kind: Kind) -> &'static str
-    ensures { result.now ≡ kind_name kind }
-{
-    match kind {
-        Kind::Ping => "ping",
-        Kind::Pong => "pong",
-        Kind::Push => "push",
-        Kind::Query => "query",
-        Kind::QueryHit => "query_hit",
-        Kind::Unknown(_) => "unknown",
-    }
-}
-
-/// Why a descriptor was dropped, by the name of its counter.
-pub(crate) fn reason_word(reason: DropReason) -> &'static str
-    ensures { result.now ≡ reason_text reason }
-{
-    match reason {
-        DropReason::UnknownKind => "unknownkind",
-        DropReason::Malformed => "malformed",
-        DropReason::Duplicate => "duplicate",
-        DropReason::NoRoute => "noroute",
-        DropReason::RouteGone => "routegone",
-        DropReason::BackToSender => "backtosender",
-        DropReason::Expired => "expired",
-    }
 }

@@ -32,7 +32,7 @@ use Rattle.gn_start.proofs.KeptLemmas.{none_before}
 use Rattle.gn_start.proofs.LoopLemmas.{came_long}
 use Rattle.gn_start.proofs.NumberLemmas.{house_is_no_links, house_within, worker_is_no_links, worker_within}
 
-get_mapped : {X Y : Type 0} (f : X → Y) (xs : List X) (k : ℕ) (x : X) → slice_get xs k ≡ Some x → slice_get (map f xs) k ≡ Some (f x)
+pub get_mapped : {X Y : Type 0} (f : X → Y) (xs : List X) (k : ℕ) (x : X) → slice_get xs k ≡ Some x → slice_get (map f xs) k ≡ Some (f x)
 get_mapped f [] k x h = absurd (cc h)
 get_mapped {X} {Y} f (y ∷ ys) zero x h = let same : y ≡ x = (cc h) in ap (λ (z : X). Some (f z)) same
 get_mapped f (y ∷ ys) (suc k) x h = get_mapped f ys k x h

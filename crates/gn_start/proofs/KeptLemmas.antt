@@ -24,11 +24,12 @@ use Rattle.gn_start.specs.Kept.{IsKept, IsOne, IsTable}
 use Rattle.gn_start.specs.Numbers.{HasRoom, links_of, more_of, reader_of, workers_of, writer_of}
 use Rattle.gn_start.specs.Table.{IsLinkTable, MayBe, ends_so_far, seat_for, with_end}
 use Rattle.gn_start.specs.declared.fault.RunFault.{RunFault}
-use Rattle.gn_start.specs.declared.fault.RunFault.TheVariants.{BadWorkers, Listen, Call, Link, HistoryFull, NoMemory, Stage, Audit}
+use Rattle.gn_start.specs.declared.fault.RunFault.TheVariants.{Listen, Call, Link, NoMemory, Audit}
 use Rattle.gn_start.specs.declared.incoming.NewLink.{NewLink}
 use Rattle.gn_start.specs.declared.states.LinkState.{LinkState}
 use Rattle.gn_start.specs.declared.states.LinkState.TheVariants.{At, Ended, Lost}
 use Rattle.gn_start.specs.declared.trouble.Trouble.{Trouble}
+use Rattle.gn_start.proofs.LoopLemmas.{not_so}
 use Rattle.gn_start.proofs.NumberLemmas.{in_run}
 use Rattle.gn_start.proofs.TableLemmas.{after_come, after_ended, after_lost, are_out, more_faults, so_far_ended, so_far_more, so_far_none}
 
@@ -40,14 +41,10 @@ kept_longer turns batch views seen steps begun c (Cut tally) reads writes is = i
 
 -- a fault of a run of so many links is one of a run of more
 fault_more : (has_peers : Bool) (links links' workers : ℕ) (fault : RunFault) → links ≤ links' → IsArrivingFault has_peers links workers fault → IsArrivingFault has_peers links' workers fault
-fault_more has_peers links links' workers BadWorkers more is = is
-fault_more has_peers links links' workers Listen more is = is
 fault_more has_peers links links' workers (Call k) more is = let low = is.1 in (is.0, omega (arith, low, more))
 fault_more has_peers links links' workers (Link k) more is = let low = is.1 in (is.0, omega (arith, low, more))
-fault_more has_peers links links' workers HistoryFull more is = is
-fault_more has_peers links links' workers NoMemory more is = is
-fault_more has_peers links links' workers (Stage fault) more is = is
 fault_more has_peers links links' workers (Audit a) more is = omega (arith, is, more)
+fault_more has_peers links links' workers fault more is = is
 
 pub some_fault_more : (has_peers : Bool) (links links' workers : ℕ) (fault : Option RunFault) → links ≤ links' → IfSome fault (λ f. IsArrivingFault has_peers links workers f) → IfSome fault (λ f. IsArrivingFault has_peers links' workers f)
 some_fault_more has_peers links links' workers None more is = tt
@@ -60,14 +57,10 @@ links_more (Open v) came = omega arith
 -- a body's fault is one of a run whose links come one after another
 pub of_body : (has_peers : Bool) (links workers : ℕ) (fault : Option RunFault) → IfSome fault (λ f. IsFaultOf links workers f) → IfSome fault (λ f. IsArrivingFault has_peers links workers f)
 of_body has_peers links workers None is = tt
-of_body has_peers links workers (Some BadWorkers) is = is
 of_body has_peers links workers (Some Listen) is = absurd is
 of_body has_peers links workers (Some (Call k)) is = absurd is
 of_body has_peers links workers (Some (Link k)) is = absurd is
-of_body has_peers links workers (Some HistoryFull) is = is
-of_body has_peers links workers (Some NoMemory) is = is
-of_body has_peers links workers (Some (Stage fault)) is = is
-of_body has_peers links workers (Some (Audit a)) is = is
+of_body has_peers links workers (Some fault) is = is
 
 -- what is so of each of these faults is so of the one that is told
 pub one_of : (P : RunFault → Type 0) (a b f : Option RunFault) → IfSome a P → IfSome b P → (f ≡ a) ⊎ (f ≡ b) → IfSome f P
@@ -94,11 +87,6 @@ pub may_end : {Rd W A : Type 0} (lost faulty : Bool) (c : NewLink Rd W) (e : Lin
 may_end lost faulty c (Whole link) fault whole has = tt
 may_end lost faulty c (Cut tally) None whole has = absurd (whole refl)
 may_end lost faulty c (Cut tally) (Some fault) whole has = has refl
-
--- what isn't lost now wasn't before
-not_lost : (was now : Bool) → (was ≡ true → now ≡ true) → now ≡ false → was ≡ false
-not_lost true now lost well = let no : true ≡ false = sym (lost refl) ∙ well in absurd (cc no)
-not_lost false now lost well = refl
 
 -- a link whose actors are the two new ones stands in its slot as one that came so
 pub seat_is : {Rd W A : Type 0} (m : Numbering) (k : ℕ) (c : NewLink Rd W) (p : Seat Rd W) (a b : ActorState A) → a ≡ new_actor (reader_of m k) → b ≡ new_actor (writer_of m k)
@@ -176,7 +164,7 @@ module _ {Rd W A O : Type 0} (turns batch : ℕ) (views : LinkViews Rd W O) (has
       record {
         links = after_ended (IsKept turns batch views r.seen) (IsKept turns batch views r'.seen) (IsOne views) m came i t.is_lost (is_some t.fault) t'.is_lost (is_some t'.fault) live live' states states' r r' p e reads writes r'.seen
             is.links here e_live e_states e_registry lost has faulty (may_end t'.is_lost (is_some t'.fault) p.came e found whole also) (kept_longer turns batch views r.seen r'.seen begun) (kept one);
-        keeper = λ well. subst keeps' (sym so_far) (told (ends_so_far states) (is.keeper (not_lost t.is_lost t'.is_lost lost well)) well);
+        keeper = λ well. subst keeps' (sym so_far) (told (ends_so_far states) (is.keeper (not_so t.is_lost t'.is_lost lost well)) well);
         counted = subst (AreCounted looks') (sym so_far) (counts (ends_so_far states) (so_far_none states p.link i p.came was.0) is.counted);
         named = one_of_three (λ f. IsArrivingFault has_peers (links_of m came) (workers_of m) f) t.fault found (Some NoMemory) t'.fault is.named (of_body has_peers (links_of m came) (workers_of m) found (of found named)) tt each;
         made = (let few = is.made in omega (arith, e_made, few));

@@ -11,7 +11,7 @@ use Rattle.gn_start.specs.declared.states.LinkState.{LinkState}
 use Rattle.gn_start.proofs.ListLemmas.{get_push_cases}
 
 -- what isn't so now wasn't before
-not_so : (was now : Bool) → (was ≡ true → now ≡ true) → now ≡ false → was ≡ false
+pub not_so : (was now : Bool) → (was ≡ true → now ≡ true) → now ≡ false → was ≡ false
 not_so true now more none = let no : true ≡ false = sym (more refl) ∙ none in absurd (cc no)
 not_so false now more none = refl
 

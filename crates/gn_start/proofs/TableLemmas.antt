@@ -17,7 +17,8 @@ use Rattle.gn_start.specs.Table.{IsLinkTable, MayBe, all_came, came_in, end_in, 
 use Rattle.gn_start.specs.declared.incoming.NewLink.{NewLink}
 use Rattle.gn_start.specs.declared.states.LinkState.{LinkState}
 use Rattle.gn_start.specs.declared.states.LinkState.TheVariants.{At, Ended, Lost}
-use Rattle.gn_start.proofs.ListLemmas.{get_push_cases, get_push_new, get_push_old, get_set_other, get_set_same, grown_same, is_slot, stay}
+use Rattle.gn_report.proofs.CountsLemmas.{get_set_other, get_set_same}
+use Rattle.gn_start.proofs.ListLemmas.{get_push_cases, get_push_new, get_push_old, grown_same, is_slot, stay}
 use Rattle.gn_start.proofs.NumberLemmas.{AreApart, apart, numbers_next, reader_is_new, two, up_next, within, writer_is_new}
 
 -- what may be known where so much is lost and faulty may be where more is

@@ -57,7 +57,7 @@ AreNumberedFrom {A} first actors = (j : ℕ) (d : ActorState A) → j < length a
 -- at once
 pub record IsOver {Rd W K B A O : Type 0} (views : LinkViews Rd W O) (keeps : K → List (Option (LinkEnd Rd W A)) → Type 0)
     (turns batch : ℕ) (m : Numbering) (workers : ℕ) (over : Over Rd W K B A) : Type 0 where
-  -- there is a list for each actor; workers and the house aren't home
+  -- there is a list for each actor; nothing of workers and the house came home
   pub lists : length over.registry.lists ≡ numbers_of m over.came
   pub house : IsOut over.registry (number_of m House)
   pub crew : (j : ℕ) → j < workers → IsOut over.registry (number_of m (Worker j))

@@ -2,7 +2,7 @@
 use Rattle.std.proofs.Common.{◌≡◌, ◌∙◌, ℕ, List, [], ◌∷◌, Option, Some, None, Result, Ok, Err, refl, sym, ap, subst}
 use Rattle.std.specs.Result.{IsErrAnd}
 use Rattle.gn_rules.specs.declared.receipt.Step.{Step}
-use Rattle.gn_text.specs.declared.fault.Cause.TheVariants.{End}
+use Rattle.gn_numbers.specs.declared.causes.Cause.TheVariants.{End}
 use Rattle.gn_text.specs.declared.fault.CaptureRefusal.{CaptureRefusal}
 use Rattle.gn_text.specs.declared.fault.CaptureRefusal.TheVariants.{Fault, NoMemory}
 use Rattle.gn_text.specs.Faults.{IsRead, IsRefused, fault_at, refused_at}

@@ -1,12 +1,12 @@
 -- What the lines of a history say, each by itself.
 use Rattle.std.specs.Prelude.{◌≡◌, ℕ, Bool, true, false, List, [], ◌∷◌, Option, Some, None, Result, Ok, Err}
 use Rattle.gn_rules.specs.declared.receipt.Step.{Step}
-use Rattle.gn_text.specs.declared.fault.Cause.{Cause}
-use Rattle.gn_text.specs.declared.fault.Cause.TheVariants as cause
+use Rattle.gn_numbers.specs.declared.causes.Cause.{Cause}
+use Rattle.gn_numbers.specs.declared.causes.Cause.TheVariants as cause
 use Rattle.gn_text.specs.declared.fault.CaptureFault.{CaptureFault}
 use Rattle.gn_text.specs.declared.fault.CaptureRefusal.{CaptureRefusal}
 use Rattle.gn_text.specs.declared.fault.CaptureRefusal.TheVariants.{Fault, NoMemory}
-use Rattle.gn_text.specs.declared.title.Text.TheVariants.{History}
+use Rattle.gn_numbers.specs.declared.titles.Text.TheVariants.{History}
 use Rattle.gn_text.specs.Faults.{◌>>=◌}
 use Rattle.gn_text.specs.Header.{config_from, header_of, own_from}
 use Rattle.gn_text.specs.Lines.{is_skipped}

@@ -71,7 +71,7 @@ fn read_due<A: Allocator + Copy>(
             None => Err(CaptureRefusal::at(number, Cause::Header)),
         },
         Due::Config(version) => match read_config(version, &fields(alloc, line)?) {
-            Some(config) => Ok((Due::Own(config.numbers), Entry::Frame)),
+            Some(numbers) => Ok((Due::Own(numbers), Entry::Frame)),
             None => Err(CaptureRefusal::at(number, Cause::Config)),
         },
         Due::Own(_) => match read_own(alloc, &fields(alloc, line)?)? {

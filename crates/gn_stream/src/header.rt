@@ -1,7 +1,7 @@
 //! The three lines that a history begins with, read one at a time.
 
+ghost use Rattle.gn_rules.specs.Limits.{AreWithin};
 ghost use Rattle.gn_text.specs.Header.{config_from, own_from};
-ghost use Rattle.gn_text.specs.Settings.{numbers_of};
 ghost use Rattle.gn_stream.specs.Reading.{place};
 ghost use Rattle.gn_stream.specs.Steps.{IsHeaderRead, IsSaid};
 
@@ -9,18 +9,19 @@ use crate::fault::StreamFault;
 use crate::lines::LineReader;
 use crate::numbered::next_numbered;
 use gn_io::Source;
-use gn_rules::Config;
+use gn_rules::{Config, Numbers};
 use gn_text::{CaptureRefusal, Cause, Text, Version, fields, read_config, read_own, read_version};
 use std::alloc::Allocator;
 
-/// Reads the line `own` into a configuration.
+/// The configuration of these numbers and the servent that the line `own` says.
 fn read_own_line<A: Allocator + Copy, S: Source>(
     alloc: A,
-    mut config: Config,
+    numbers: Numbers,
     lines: &mut LineReader<A>,
     source: &mut S,
 ) -> Result<Config, StreamFault>
-    ensures { IsSaid (own_from (numbers_of config)) result
+    requires { AreWithin numbers }
+    ensures { IsSaid (own_from numbers) result
         (place (S.state source.old) lines.old) (place (S.state source.new) lines.new) }
 {
     let Some(number) = next_numbered(lines, source)? else {
@@ -28,10 +29,7 @@ fn read_own_line<A: Allocator + Copy, S: Source>(
         return Err(StreamFault::Text(missing));
     };
     match read_own(alloc, &fields(alloc, lines.line())?)? {
-        Some(own) => {
-            config.own = own;
-            Ok(config)
-        }
+        Some(own) => Ok(Config::with(numbers, own)),
         None => Err(StreamFault::Text(CaptureRefusal::at(number, Cause::Own))),
     }
 }
@@ -50,9 +48,9 @@ fn read_config_line<A: Allocator + Copy, S: Source>(
         let missing = CaptureRefusal::at(lines.next(), Cause::Config);
         return Err(StreamFault::Text(missing));
     };
-    let config = read_config(version, &fields(alloc, lines.line())?);
-    match config {
-        Some(config) => read_own_line(alloc, config, lines, source),
+    let numbers = read_config(version, &fields(alloc, lines.line())?);
+    match numbers {
+        Some(numbers) => read_own_line(alloc, numbers, lines, source),
         None => Err(StreamFault::Text(CaptureRefusal::at(number, Cause::Config))),
     }
 }

@@ -14,11 +14,10 @@ use Rattle.gn_rules.specs.declared.event.Event.TheVariants.{Connect, Close, Admi
 use Rattle.gn_rules.specs.declared.receipt.Step.{Step}
 use Rattle.gn_rules.specs.declared.refusal.Refusal.{Refusal}
 use Rattle.gn_rules.specs.declared.reply.Reply.{Reply}
-use Rattle.gn_rules.specs.declared.reply.Reply.TheVariants.{Connected, TooMany, Closed, Admitted, Busy, Crowded, Taken, Sent}
+use Rattle.gn_rules.specs.declared.reply.Reply.TheVariants.{Connected, TooMany, Closed, Taken, Sent}
 use Rattle.gn_rules.specs.declared.sends.Sending.{Sending}
-use Rattle.gn_rules.specs.declared.statistics.Counter.{Counter}
-use Rattle.gn_rules.specs.declared.statistics.Counter.TheVariants as counter
-use Rattle.gn_rules.specs.Answer.{answer, decision_reply, event_answer, may_originate}
+use Rattle.gn_rules.specs.declared.statistics.Stats.{Stats}
+use Rattle.gn_rules.specs.Answer.{admission_reply, answer, decision_reply, event_answer, may_originate}
 use Rattle.gn_rules.specs.Decision.{decide}
 use Rattle.gn_rules.specs.Flight.{Admission, flying, flying_from, in_flight, tickets}
 use Rattle.gn_rules.specs.Limits.{most}
@@ -26,8 +25,9 @@ use Rattle.gn_rules.specs.History.{connections, live, live_connections, sends_of
 use Rattle.gn_rules.specs.Output.{out}
 use Rattle.gn_rules.specs.Sending.{fanout}
 use Rattle.gn_rules.specs.SeenEntries.{is_remembered}
-use Rattle.gn_rules.specs.Statistics.{counter_of, stats_of, count_in}
-use Rattle.gn_rules.proofs.OutputLemmas.{counters_add_up}
+use Rattle.gn_rules.specs.Statistics.{counter_of, count_in}
+use Rattle.gn_rules.proofs.CounterLemmas.{count_few}
+use Rattle.gn_rules.proofs.DecisionLemmas.{key_is_new}
 use Rattle.gn_tables.specs.declared.flights.Flight.{Flight}
 use Rattle.gn_tables.specs.Outputs.{Outputs}
 use Rattle.gn_table_router.specs.declared.tables.Tables.{Tables}
@@ -36,34 +36,15 @@ use Rattle.gn_tables.specs.Routed.{CanRemember, carried}
 use Rattle.gn_table_router.specs.Followed.{CanAdmit, CanConnect, CanFollow, CanMove, CanRoute, moved, routed}
 use Rattle.gn_table_router.specs.Sent.{CanSend}
 use Rattle.gn_table_router.specs.Tabled.{IsTabled, flight_of}
-use Rattle.gn_table_router.proofs.DecisionLemmas.{key_is_new, route_sends, servent_is_known}
+use Rattle.gn_table_router.proofs.DecisionLemmas.{route_sends, servent_is_known}
 use Rattle.gn_table_router.proofs.FlightLemmas.{absent}
-use Rattle.gn_table_router.proofs.FollowLemmas.{below_from, first_for, flight_for, live_for, origin_for, room_for}
+use Rattle.gn_table_router.proofs.FollowLemmas.{admit_for, below_from, first_for, flight_for, live_for, origin_for, room_for}
 use Rattle.gn_table_router.proofs.ReadLemmas.{count_known}
 use Rattle.gn_table_router.proofs.SendableLemmas.{AreSendable, fanout_sends, sends_fit}
 
 none_from : {X : Type 0} (o : Option X) → is_some o ≡ false → o ≡ None
 none_from None h = refl
 none_from (Some x) h = absurd (cc)
-
--- no counter is above the number of steps
-known_few : {A : Type 0} (past : List (Step A)) (k : Counter) → count_in k (stats_of past) ≤ length past
-known_few {A} past counter.Connected = omega (arith, counters_add_up A past)
-known_few {A} past counter.TooMany = omega (arith, counters_add_up A past)
-known_few {A} past counter.Closed = omega (arith, counters_add_up A past)
-known_few {A} past counter.Admitted = omega (arith, counters_add_up A past)
-known_few {A} past counter.Busy = omega (arith, counters_add_up A past)
-known_few {A} past counter.Crowded = omega (arith, counters_add_up A past)
-known_few {A} past counter.Routed = omega (arith, counters_add_up A past)
-known_few {A} past counter.UnknownKind = omega (arith, counters_add_up A past)
-known_few {A} past counter.Malformed = omega (arith, counters_add_up A past)
-known_few {A} past counter.Duplicate = omega (arith, counters_add_up A past)
-known_few {A} past counter.NoRoute = omega (arith, counters_add_up A past)
-known_few {A} past counter.RouteGone = omega (arith, counters_add_up A past)
-known_few {A} past counter.BackToSender = omega (arith, counters_add_up A past)
-known_few {A} past counter.Expired = omega (arith, counters_add_up A past)
-known_few {A} past counter.Taken = omega (arith, counters_add_up A past)
-known_few {A} past counter.Sent = omega (arith, counters_add_up A past)
 
 module _ {A : Type 0} (s : Config) (past : List (Step A)) (t : Tables A) (are : IsTabled s past t) where
   -- what isn't remembered isn't in the table
@@ -88,19 +69,18 @@ module _ {A : Type 0} (s : Config) (past : List (Step A)) (t : Tables A) (are : 
       let few : length t.neighbours.rows < t.neighbours.most = omega (arith, room, most, count_known s past t are) in
       subst (λ (r : Reply A). CanConnect r t) is (greater, few)
 
-  admits : (busy : Bool) → (length (flying past) == s.numbers.stage) ≡ busy → (crowded : Bool) → length past < most.steps → (reply : Reply A)
-      → cond {A = Result (Reply A) Refusal} busy (Ok Busy) (cond crowded (Ok Crowded) (Ok (Admitted (length (tickets past))))) ≡ Ok reply → CanAdmit reply t
-  admits true e crowded short reply f = let is : Busy ≡ reply = cc in subst (λ (r : Reply A). CanAdmit r t) is tt
-  admits false e true short reply f = let is : Crowded ≡ reply = cc in subst (λ (r : Reply A). CanAdmit r t) is tt
-  admits false e false short reply f =
+  admits : (busy : Bool) → (length (flying past) == s.numbers.stage) ≡ busy → (crowded : Bool) → length past < most.steps
+      → CanAdmit (admission_reply {A = A} busy crowded (length (tickets past))) t
+  admits true e crowded short = tt
+  admits false e true short = tt
+  admits false e false short =
       let m : ℕ = length (tickets past) in
-      let is : Admitted m ≡ reply = cc in
       let same : t.admitted ≡ m = are.flights_are.counted in
       let fits : m + 1 < 2 ^ 32 = omega (arith, same, are.flights_are.few, short) in
       let room : length (flying past) < s.numbers.stage = below_from (length (flying past)) s.numbers.stage are.flights_are.few_flying e in
       let few : fin.len t.flights.flights < t.flights.most = omega (arith, room, are.flights_are.many, are.flights_are.most) in
       let none : fin.get t.flights.flights m ≡ None = rw (← same) (absent s past t.admitted t.flights are.flights_are) in
-      subst (λ (r : Reply A). CanAdmit r t) is (fits, few, none)
+      (fits, few, none)
 
   routes : (u : ℕ) (reply : Reply A) (a : Admission) → in_flight past u ≡ Some a → reply ≡ decision_reply s past a (decide s past a) → CanRoute u reply t
   routes u reply a there is = subst (λ (r : Reply A). CanRoute u r t) (sym is) (λ f got.
@@ -114,7 +94,9 @@ module _ {A : Type 0} (s : Config) (past : List (Step A)) (t : Tables A) (are : 
   can_move : (event : Event A) (reply : Reply A) → length past < most.steps → answer s past event ≡ Ok reply → CanMove event reply t
   can_move Connect reply short h = connects (length (live_connections past) == s.numbers.neighbours) refl reply (room_for _ _ reply h).1
   can_move (Close c) reply short h = tt
-  can_move (Admit c d) reply short h = admits (length (flying past) == s.numbers.stage) refl (not (s.numbers.crowd == 0) && nat_le s.numbers.crowd (length (flying_from past c))) short reply (live_for (live past c) _ reply (room_for _ _ reply h).1).1
+  can_move (Admit c d) reply short h =
+      subst (λ (r : Reply A). CanAdmit r t) (admit_for s past c d reply h)
+      (admits (length (flying past) == s.numbers.stage) refl (not (s.numbers.crowd == 0) && nat_le s.numbers.crowd (length (flying_from past c))) short)
   can_move (Route u) reply short h =
       let flight : (a : Admission) × (in_flight past u ≡ Some a) × (reply ≡ decision_reply s past a (decide s past a)) = flight_for s past (in_flight past u) reply (room_for _ _ reply h).1 in
       routes u reply flight.0 flight.1 flight.2
@@ -131,12 +113,10 @@ module _ {A : Type 0} (s : Config) (past : List (Step A)) (t : Tables A) (are : 
   connect_sends true n reply f l = let is : TooMany ≡ reply = cc in silent l reply TooMany is tt
   connect_sends false n reply f l = let is : Connected n ≡ reply = cc in silent l reply (Connected n) is tt
 
-  admit_sends : (busy crowded : Bool) (n : ℕ) (reply : Reply A)
-      → cond {A = Result (Reply A) Refusal} busy (Ok Busy) (cond crowded (Ok Crowded) (Ok (Admitted n))) ≡ Ok reply
-      → (l : Outputs) → CanSend (sends_of reply) l
-  admit_sends true crowded n reply f l = let is : Busy ≡ reply = cc in silent l reply Busy is tt
-  admit_sends false true n reply f l = let is : Crowded ≡ reply = cc in silent l reply Crowded is tt
-  admit_sends false false n reply f l = let is : Admitted n ≡ reply = cc in silent l reply (Admitted n) is tt
+  admit_sends : (busy crowded : Bool) (n : ℕ) (l : Outputs) → CanSend (sends_of (admission_reply {A = A} busy crowded n)) l
+  admit_sends true crowded n l = tt
+  admit_sends false true n l = tt
+  admit_sends false false n l = tt
 
   -- a route leaves the output queues as they are until its packets are queued
   route_leaves : (u : ℕ) (reply : Reply A) (o : Option (Flight A)) → (routed u reply o t).neighbours ≡ t.neighbours
@@ -152,8 +132,9 @@ module _ {A : Type 0} (s : Config) (past : List (Step A)) (t : Tables A) (are : 
       let is : Closed n ≡ reply = cc in
       silent _ reply (Closed n) is tt
   can_send (Admit c d) reply h =
-      admit_sends (length (flying past) == s.numbers.stage) (not (s.numbers.crowd == 0) && nat_le s.numbers.crowd (length (flying_from past c))) (length (tickets past))
-      reply (live_for (live past c) _ reply (room_for _ _ reply h).1).1 _
+      let after : Outputs = (moved (Admit c d) reply t).neighbours in
+      subst (λ (r : Reply A). CanSend (sends_of r) after) (admit_for s past c d reply h)
+      (admit_sends (length (flying past) == s.numbers.stage) (not (s.numbers.crowd == 0) && nat_le s.numbers.crowd (length (flying_from past c))) (length (tickets past)) after)
   can_send (Route u) reply h =
       let flight : (a : Admission) × (in_flight past u ≡ Some a) × (reply ≡ decision_reply s past a (decide s past a)) = flight_for s past (in_flight past u) reply (room_for _ _ reply h).1 in
       subst (λ (l : Outputs). CanSend (sends_of reply) l) (sym (route_leaves u reply (fin.get t.flights.flights u)))
@@ -170,5 +151,6 @@ module _ {A : Type 0} (s : Config) (past : List (Step A)) (t : Tables A) (are : 
       let room : length past < s.numbers.steps = below_from (length past) s.numbers.steps are.short (room_for _ _ reply h).0 in
       let limit : s.numbers.steps ≤ most.steps = s.within.steps.greatest in
       let short : length past < most.steps = omega (arith, room, limit) in
-      let few : count_in (counter_of reply) t.stats ≤ length past = rw (ap (count_in (counter_of reply)) are.stats_are) (known_few past (counter_of reply)) in
+      let few : count_in (counter_of reply) t.stats ≤ length past =
+      subst (λ (n : Stats). count_in (counter_of reply) n ≤ length past) (sym are.stats_are) (count_few past (counter_of reply)) in
       record { moves = can_move event reply short h; counts = omega (arith, few, short); sends = can_send event reply h }

@@ -14,9 +14,9 @@ use Rattle.gn_rules.specs.declared.receipt.Step.{Step}
 use Rattle.gn_rules.specs.declared.refusal.Refusal.{Refusal}
 use Rattle.gn_rules.specs.declared.refusal.Refusal.TheVariants.{HistoryFull, NotLive, NoTicket, NothingWaiting, BadOrigin, Remembered}
 use Rattle.gn_rules.specs.declared.reply.Reply.{Reply}
-use Rattle.gn_rules.specs.declared.reply.Reply.TheVariants.{Connected, TooMany, Closed, Admitted, Busy, Crowded, Taken, Sent}
+use Rattle.gn_rules.specs.declared.reply.Reply.TheVariants.{Connected, TooMany, Closed, Admitted, Taken, Sent}
 use Rattle.gn_rules.specs.declared.sends.Sending.{Sending}
-use Rattle.gn_rules.specs.Answer.{answer, decision_reply, event_answer, may_originate}
+use Rattle.gn_rules.specs.Answer.{admission_reply, answer, decision_reply, event_answer, may_originate}
 use Rattle.gn_rules.specs.Decision.{Decision, Drop, Local, Flood, Forward, decide}
 use Rattle.gn_rules.specs.Flight.{Admission, admission, flying, flying_from, in_flight, is_route, is_routed, tickets}
 use Rattle.gn_rules.specs.History.{admitted_of, connected_of, is_close, is_take, sends_of, connections, live, live_connections}
@@ -25,6 +25,7 @@ use Rattle.gn_rules.specs.Sending.{fanout}
 use Rattle.gn_rules.specs.Servents.{hit_of}
 use Rattle.gn_rules.specs.SeenEntries.{is_remembered, entry_of}
 use Rattle.gn_rules.specs.Statistics.{counter_of, raised, stats_of}
+use Rattle.gn_rules.proofs.CounterLemmas.{stats_more}
 use Rattle.gn_rules.proofs.StepLemmas.{rows-closed, rows-connected, rows-sent, rows-taken}
 use Rattle.gn_tables.specs.declared.flights.Flight.{Flight}
 use Rattle.gn_tables.specs.Outputs.{Outputs, first_of, joined, left, output_of, popped}
@@ -55,6 +56,17 @@ pub live_for : {A : Type 0} (alive : Bool) (rules : Result (Reply A) Refusal) (r
     → (alive ≡ true) × (rules ≡ Ok reply)
 live_for true rules reply h = (refl, h)
 live_for false rules reply h = absurd (cc)
+
+ok_is : {A : Type 0} (rules reply : Reply A) → ◌≡◌ {A = Result (Reply A) Refusal} (Ok rules) (Ok reply) → rules ≡ reply
+ok_is rules reply h = cc
+
+-- the reply to an Admit
+pub admit_for : {A : Type 0} (s : Config) (past : List (Step A)) (c : ℕ) (d : Packet) (reply : Reply A) → answer s past (Admit c d) ≡ Ok reply
+    → admission_reply {A = A} (length (flying past) == s.numbers.stage) (not (s.numbers.crowd == 0) && nat_le s.numbers.crowd (length (flying_from past c))) (length (tickets past)) ≡ reply
+admit_for {A} s past c d reply h =
+    let busy : Bool = length (flying past) == s.numbers.stage in
+    let crowded : Bool = not (s.numbers.crowd == 0) && nat_le s.numbers.crowd (length (flying_from past c)) in
+    ok_is (admission_reply {A = A} busy crowded (length (tickets past))) reply (live_for (live past c) _ reply (room_for _ _ reply h).1).1
 
 -- what waits has a first packet
 pub first_for : {A : Type 0} (packets : List Packet) (reply : Reply A) → ok_or (option_map (λ p. Taken p) (slice_get packets 0)) NothingWaiting ≡ Ok reply
@@ -145,8 +157,8 @@ module _ {A : Type 0} (s : Config) (past : List (Step A)) (t : Tables A) (are : 
       let there : (if live past c then Some (slice_get (out past c) 0) else None) ≡ Some (Some p) = rw (found.0, head) refl in
       first_there (λ packets. slice_get packets 0) (output_of c t.neighbours) p (front_known s past t are c ∙ there)
 
-  stats_moved : (reply : Reply A) → raised (counter_of reply) t.stats ≡ raised (counter_of reply) (stats_of past)
-  stats_moved reply = ap (raised (counter_of reply)) are.stats_are
+  stats_moved : (step : Step A) → raised (counter_of step.reply) t.stats ≡ stats_of (step ∷ past)
+  stats_moved step = ap (raised (counter_of step.reply)) are.stats_are ∙ sym (stats_more step past)
 
   -- a step that changes no table
   kept : (actor : ℕ) (event : Event A) (reply : Reply A) → answer s past event ≡ Ok reply → connected_of reply ≡ None → admitted_of reply ≡ None → sends_of reply ≡ []
@@ -160,16 +172,19 @@ module _ {A : Type 0} (s : Config) (past : List (Step A)) (t : Tables A) (are : 
       (flights_kept s past t.admitted t.flights are.flights_are step no_ticket no_route)
       (seen_moved step None no_entry) (servents_moved step None no_hit)
       (lines_sent step no_connection no_close no_take)
-      (stats_moved reply)
+      (stats_moved step)
 
   module _ (actor : ℕ) where
+    -- the tables are what one more step makes them, once its packets are queued
+    abbrev IsFollowed : Event A → Reply A → Type 0
+    IsFollowed event reply = IsTabled s (record { actor = actor; event = event; reply = reply } ∷ past) (queued (sends_of reply) (followed event reply t))
+
     -- Connect
     connects : (full : Bool) → (length (live_connections past) == s.numbers.neighbours) ≡ full → (reply : Reply A) → answer s past Connect ≡ Ok reply
-        → cond {A = Result (Reply A) Refusal} full (Ok TooMany) (Ok (Connected (1 + length (connections past)))) ≡ Ok reply
-        → IsTabled s (record { actor = actor; event = Connect; reply = reply } ∷ past) (queued (sends_of reply) (followed Connect reply t))
+        → cond {A = Result (Reply A) Refusal} full (Ok TooMany) (Ok (Connected (1 + length (connections past)))) ≡ Ok reply → IsFollowed Connect reply
     connects true e reply h f =
         let is : TooMany ≡ reply = cc in
-        subst (λ (r : Reply A). IsTabled s (record { actor = actor; event = Connect; reply = r } ∷ past) (queued (sends_of r) (followed Connect r t))) is
+        subst (IsFollowed Connect) is
         (kept actor Connect TooMany (h ∙ ap (λ r. Ok r) (sym is)) refl refl refl (λ c. refl) (λ c. refl) (λ u. refl) refl refl)
     connects false e reply h f =
         let c : ℕ = 1 + length (connections past) in
@@ -179,90 +194,80 @@ module _ {A : Type 0} (s : Config) (past : List (Step A)) (t : Tables A) (are : 
         let room : length (live_connections past) < s.numbers.neighbours = below_from (length (live_connections past)) s.numbers.neighbours are.numbered.few_live e in
         let below : All (λ d. d < c) (connections past) = rw same are.numbered.below in
         let empty : out past c ≡ [] = are.numbered.fresh c (omega arith) in
-        subst (λ (r : Reply A). IsTabled s (record { actor = actor; event = Connect; reply = r } ∷ past) (queued (sends_of r) (followed Connect r t))) is
+        subst (IsFollowed Connect) is
         (tabled step (queued (sends_of (Connected c)) (followed Connect (Connected c) t)) (h ∙ ap (λ r. Ok r) (sym is))
         (numbered_connected s past t.connected are.numbered actor c same room)
         (flights_kept s past t.admitted t.flights are.flights_are step refl (λ u. refl))
         (seen_moved step None refl) (servents_moved step None refl)
         (sent_none A (joined c t.neighbours) ∙ ap (joined c) are.neighbours_are ∙ ap with_rows (sym (rows-connected past actor c below empty)))
-        (stats_moved (Connected c)))
+        (stats_moved step))
 
     -- Close
-    closes : (c : ℕ) (reply : Reply A) → answer s past (Close c) ≡ Ok reply
-        → IsTabled s (record { actor = actor; event = Close c; reply = reply } ∷ past) (queued (sends_of reply) (followed (Close c) reply t))
+    closes : (c : ℕ) (reply : Reply A) → answer s past (Close c) ≡ Ok reply → IsFollowed (Close c) reply
     closes c reply h =
         let n : ℕ = length (out past c) in
         let found : Ok (Closed n) ≡ Ok reply = (live_for (live past c) (Ok (Closed n)) reply (room_for (length past == s.numbers.steps) (event_answer s past (Close c)) reply h).1).1 in
         let is : Closed n ≡ reply = cc in
         let step : Step A = record { actor = actor; event = Close c; reply = Closed n } in
-        subst (λ (r : Reply A). IsTabled s (record { actor = actor; event = Close c; reply = r } ∷ past) (queued (sends_of r) (followed (Close c) r t))) is
+        subst (IsFollowed (Close c)) is
         (tabled step (queued (sends_of (Closed n)) (followed (Close c) (Closed n) t)) (h ∙ ap (λ r. Ok r) (sym is))
         (numbered_closed s past t.connected are.numbered actor c n)
         (flights_kept s past t.admitted t.flights are.flights_are step refl (λ u. refl))
         (seen_moved step None refl) (servents_moved step None refl)
         (sent_none A (left c t.neighbours) ∙ ap (left c) are.neighbours_are ∙ ap with_rows (sym (rows-closed past actor c n)))
-        (stats_moved (Closed n)))
+        (stats_moved step))
 
     -- Take
-    takes : (c : ℕ) (reply : Reply A) → answer s past (Take c) ≡ Ok reply
-        → IsTabled s (record { actor = actor; event = Take c; reply = reply } ∷ past) (queued (sends_of reply) (followed (Take c) reply t))
+    takes : (c : ℕ) (reply : Reply A) → answer s past (Take c) ≡ Ok reply → IsFollowed (Take c) reply
     takes c reply h =
         let first : (p : Packet) × (reply ≡ Taken p) = first_for (out past c) reply (live_for (live past c) _ reply (room_for _ _ reply h).1).1 in
         let p : Packet = first.0 in
         let step : Step A = record { actor = actor; event = Take c; reply = Taken p } in
-        subst (λ (r : Reply A). IsTabled s (record { actor = actor; event = Take c; reply = r } ∷ past) (queued (sends_of r) (followed (Take c) r t))) (sym first.1)
+        subst (IsFollowed (Take c)) (sym first.1)
         (tabled step (queued (sends_of (Taken p)) (followed (Take c) (Taken p) t)) (h ∙ ap (λ r. Ok r) first.1)
         (numbered_kept s past t.connected are.numbered step refl (λ d. refl) (λ d above. refl))
         (flights_kept s past t.admitted t.flights are.flights_are step refl (λ u. refl))
         (seen_moved step None refl) (servents_moved step None refl)
         (sent_none A (popped c t.neighbours) ∙ ap (popped c) are.neighbours_are ∙ ap with_rows (sym (rows-taken past actor c p)))
-        (stats_moved (Taken p)))
+        (stats_moved step))
 
     -- Admit
-    admits : (c : ℕ) (d : Packet) (busy : Bool) → (length (flying past) == s.numbers.stage) ≡ busy → (crowded : Bool) → (reply : Reply A) → answer s past (Admit c d) ≡ Ok reply
-        → cond {A = Result (Reply A) Refusal} busy (Ok Busy) (cond crowded (Ok Crowded) (Ok (Admitted (length (tickets past))))) ≡ Ok reply
-        → IsTabled s (record { actor = actor; event = Admit c d; reply = reply } ∷ past) (queued (sends_of reply) (followed (Admit c d) reply t))
-    admits c d true e crowded reply h f =
-        let is : Busy ≡ reply = cc in
-        subst (λ (r : Reply A). IsTabled s (record { actor = actor; event = Admit c d; reply = r } ∷ past) (queued (sends_of r) (followed (Admit c d) r t))) is
-        (kept actor (Admit c d) Busy (h ∙ ap (λ r. Ok r) (sym is)) refl refl refl (λ c. refl) (λ c. refl) (λ u. refl) refl refl)
-    admits c d false e true reply h f =
-        let is : Crowded ≡ reply = cc in
-        subst (λ (r : Reply A). IsTabled s (record { actor = actor; event = Admit c d; reply = r } ∷ past) (queued (sends_of r) (followed (Admit c d) r t))) is
-        (kept actor (Admit c d) Crowded (h ∙ ap (λ r. Ok r) (sym is)) refl refl refl (λ c. refl) (λ c. refl) (λ u. refl) refl refl)
-    admits c d false e false reply h f =
+    admits : (c : ℕ) (d : Packet) (busy : Bool) → (length (flying past) == s.numbers.stage) ≡ busy → (crowded : Bool)
+        → answer s past (Admit c d) ≡ Ok (admission_reply {A = A} busy crowded (length (tickets past))) → IsFollowed (Admit c d) (admission_reply {A = A} busy crowded (length (tickets past)))
+    admits c d true e crowded h =
+        kept actor (Admit c d) (admission_reply {A = A} true crowded (length (tickets past))) h refl refl refl (λ c. refl) (λ c. refl) (λ u. refl) refl refl
+    admits c d false e true h =
+        kept actor (Admit c d) (admission_reply {A = A} false true (length (tickets past))) h refl refl refl (λ c. refl) (λ c. refl) (λ u. refl) refl refl
+    admits c d false e false h =
         let m : ℕ = t.admitted in
-        let found : Admitted (length (tickets past)) ≡ reply = cc in
-        let is : Admitted m ≡ reply = ap (ticket_reply A) are.flights_are.counted ∙ found in
+        let is : ticket_reply A m ≡ ticket_reply A (length (tickets past)) = ap (ticket_reply A) are.flights_are.counted in
         let step : Step A = record { actor = actor; event = Admit c d; reply = Admitted m } in
         let room : length (flying past) < s.numbers.stage = below_from (length (flying past)) s.numbers.stage are.flights_are.few_flying e in
-        subst (λ (r : Reply A). IsTabled s (record { actor = actor; event = Admit c d; reply = r } ∷ past) (queued (sends_of r) (followed (Admit c d) r t))) is
+        subst (IsFollowed (Admit c d)) is
         (tabled step (queued (sends_of (Admitted m)) (followed (Admit c d) (Admitted m) t)) (h ∙ ap (λ r. Ok r) (sym is))
         (numbered_kept s past t.connected are.numbered step refl (λ d. refl) (λ d above. refl))
         (flights_admitted s past m t.flights are.flights_are actor c d room)
         (seen_moved step None refl) (servents_moved step None refl)
         (lines_sent step refl (λ c. refl) (λ c. refl))
-        (stats_moved (Admitted m)))
+        (stats_moved step))
 
     -- Originate
-    originates : (d : Packet) (reply : Reply A) → answer s past (Originate d) ≡ Ok reply
-        → IsTabled s (record { actor = actor; event = Originate d; reply = reply } ∷ past) (queued (sends_of reply) (followed (Originate d) reply t))
+    originates : (d : Packet) (reply : Reply A) → answer s past (Originate d) ≡ Ok reply → IsFollowed (Originate d) reply
     originates d reply h =
         let sends : List (Sending A) = fanout s past 0 d in
         let is : reply ≡ Sent sends = (origin_for (may_originate s.numbers.life d) (is_remembered s past (key_of d)) sends reply (room_for _ _ reply h).1).1 in
         let step : Step A = record { actor = actor; event = Originate d; reply = Sent sends } in
         let sendable : AreSendable s past sends = fanout_sends s past are.numbered.apart 0 d in
-        subst (λ (r : Reply A). IsTabled s (record { actor = actor; event = Originate d; reply = r } ∷ past) (queued (sends_of r) (followed (Originate d) r t))) (sym is)
+        subst (IsFollowed (Originate d)) (sym is)
         (tabled step (queued (sends_of (Sent sends)) (followed (Originate d) (Sent sends) t)) (h ∙ ap (λ r. Ok r) is)
         (numbered_kept s past t.connected are.numbered step refl (λ d. refl) (λ c above. sends_quiet s past t.connected c sends are.numbered above sendable))
         (flights_kept s past t.admitted t.flights are.flights_are step refl (λ u. refl))
         (seen_moved step (Some (key_of d, 0)) refl) (servents_moved step None refl)
         (lines_sent step refl (λ c. refl) (λ c. refl))
-        (stats_moved (Sent sends)))
+        (stats_moved step))
 
     -- Route
-    routes : (u : ℕ) (reply : Reply A) → answer s past (Route u) ≡ Ok reply
-        → IsTabled s (record { actor = actor; event = Route u; reply = reply } ∷ past) (queued (sends_of reply) (followed (Route u) reply t))
+    routes : (u : ℕ) (reply : Reply A) → answer s past (Route u) ≡ Ok reply → IsFollowed (Route u) reply
     routes u reply h =
         let flight : (a : Admission) × (in_flight past u ≡ Some a) × (reply ≡ decision_reply s past a (decide s past a)) = flight_for s past (in_flight past u) reply (room_for _ _ reply h).1 in
         let a : Admission = flight.0 in
@@ -282,14 +287,17 @@ module _ {A : Type 0} (s : Config) (past : List (Step A)) (t : Tables A) (are : 
         (ap (with_kept reply a) are.seen_is ∙ remembered_routed s past actor u reply a admission_is)
         (ap (with_heard reply a) are.servents_are ∙ known_routed s past actor u reply a admission_is)
         (lines_sent step no_connection (λ c. refl) (λ c. refl))
-        (stats_moved reply))
+        (stats_moved step))
 
     -- any event
     pub follows : (event : Event A) (reply : Reply A) → answer s past event ≡ Ok reply
         → IsTabled s (record { actor = actor; event = event; reply = reply } ∷ past) (queued (sends_of reply) (followed event reply t))
     follows Connect reply h = connects (length (live_connections past) == s.numbers.neighbours) refl reply h (room_for _ _ reply h).1
     follows (Close c) reply h = closes c reply h
-    follows (Admit c d) reply h = admits c d (length (flying past) == s.numbers.stage) refl (not (s.numbers.crowd == 0) && nat_le s.numbers.crowd (length (flying_from past c))) reply h (live_for (live past c) _ reply (room_for _ _ reply h).1).1
+    follows (Admit c d) reply h =
+        let is = admit_for s past c d reply h in
+        subst (IsFollowed (Admit c d)) is
+        (admits c d (length (flying past) == s.numbers.stage) refl (not (s.numbers.crowd == 0) && nat_le s.numbers.crowd (length (flying_from past c))) (h ∙ ap (λ r. Ok r) (sym is)))
     follows (Route u) reply h = routes u reply h
     follows (Take c) reply h = takes c reply h
     follows (Originate d) reply h = originates d reply h

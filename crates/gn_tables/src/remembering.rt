@@ -1,7 +1,6 @@
 //! What is remembered of a flight that is routed.
 
 ghost use Rattle.std.specs.Prelude.{◌≡◌, OnErr, OnOk};
-ghost use Rattle.gn_rules.specs.Servents.{is_query_hit};
 ghost use Rattle.gn_kept.specs.Remembered.{with_kept};
 ghost use Rattle.gn_tables.specs.Routed.{CanRemember, carried, with_heard};
 
@@ -9,8 +8,7 @@ use crate::flights::Flight;
 use crate::servents::ServentTable;
 use gn_kept::SeenTable;
 use gn_payload::servent_of_hit;
-use gn_rules::Reply;
-use gn_wire::Kind;
+use gn_rules::{Reply, is_query_hit};
 use std::alloc::{AllocError, Allocator};
 
 /// Keeps the key of a request that was routed, or the servent of an answer. An `Err` is out of memory, and changes
@@ -28,15 +26,8 @@ pub fn remember<A: Allocator + Copy>(
 {
     let descriptor = &flight.descriptor;
     seen.keep_routed(flight.from, descriptor, reply)?;
-    if is_hit(descriptor.kind()) && reply.is_routed() {
+    if is_query_hit(descriptor.kind()) && reply.is_routed() {
         return servents.learn(servent_of_hit(descriptor.payload().as_slice()), flight.from);
     }
     Ok(())
-}
-
-/// Whether a kind is Query Hit.
-fn is_hit(kind: Kind) -> bool
-    ensures { result ≡ is_query_hit kind }
-{
-    matches!(kind, Kind::QueryHit)
 }

@@ -3,7 +3,7 @@
 use crate::asks::{Ask, Packet, are_met, descriptor, is_met};
 use gn_fixtures::{OWN, ping, usual};
 use gn_payload::Checked;
-use gn_rules::{Config, Event, FreshRouter, Historian, Refusal, RouterCore};
+use gn_rules::{Config, Counter, Event, FreshRouter, Historian, Refusal, RouterCore};
 use gn_search::PlainRouter;
 use gn_table_router::TableRouter;
 use gn_wire::{Descriptor, Kind};
@@ -113,7 +113,7 @@ fn counts_flights<A: Allocator + Copy, C: FreshRouter<A> + Drop>(
     let config = Config::new(4, 8, 4, 8, 8, 100, 0, 2, OWN)?;
     let mut core = C::make(alloc, &config)?;
     let are_counted = are_counted(alloc, &mut core);
-    let (crowded, others) = (core.stats().crowded, core.flights_of(9));
+    let (crowded, others) = (core.stats().get(Counter::Crowded), core.flights_of(9));
     drop(core);
     if are_counted? && crowded == 1 && others == 0 {
         Ok(())

@@ -22,7 +22,7 @@ abbrev pub ArePassed : Numbers → Type 0
 ArePassed n = are_within n ≡ true
 
 -- numbers that passed the test are within their limits
-passed : (n : Numbers) → ArePassed n → AreWithin n
+pub passed : (n : Numbers) → ArePassed n → AreWithin n
 passed n h = record {
   neighbours = record { least = grind (arith, nat_tests, h); greatest = grind (arith, nat_tests, h) };
   seen = record { least = grind (arith, nat_tests, h); greatest = grind (arith, nat_tests, h) };

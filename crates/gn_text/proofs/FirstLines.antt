@@ -2,14 +2,14 @@
 use Rattle.std.proofs.Common.{◌≡◌, ℕ, List, [], ◌∷◌, refl, Some, None, Ok, Err}
 use Rattle.gn_rules.specs.declared.config.Own.{Own}
 use Rattle.gn_text.specs.Lines.{fields_of}
-use Rattle.gn_text.specs.declared.fault.Cause.TheVariants as cause
+use Rattle.gn_numbers.specs.declared.causes.Cause.TheVariants as cause
 use Rattle.gn_text.specs.Faults.{fault_at}
 use Rattle.gn_text.specs.Header.{config_from, header_of, own_from}
 use Rattle.gn_rules.specs.declared.limits.Numbers.{Numbers}
 use Rattle.gn_text.specs.Settings.{config_of, own_of}
-use Rattle.gn_text.specs.declared.title.Text.{Text}
+use Rattle.gn_numbers.specs.declared.titles.Text.{Text}
 use Rattle.gn_numbers.specs.declared.version.Version.{Version}
-use Rattle.gn_text.specs.Titles.{version_of}
+use Rattle.gn_numbers.specs.Names.{version_of}
 
 pub own_read : (numbers : Numbers) (after n : ℕ) (text : List ℕ) (lines more : List (ℕ × List ℕ)) (own : Own) → lines ≡ (n, text) ∷ more
     → own_of (fields_of text) ≡ Some own → own_from numbers after lines ≡ Ok ((numbers, own), more)

@@ -3,14 +3,14 @@ use Rattle.std.proofs.Common.{ℕ, List, [], ◌∷◌, Option, Some, None, Ok}
 use Rattle.std.specs.Prelude.{IfOk, IfSome}
 use Rattle.gn_rules.specs.declared.config.Own.{Own}
 use Rattle.gn_text.specs.Lines.{fields_of}
-use Rattle.gn_text.specs.declared.fault.Cause.TheVariants as cause
+use Rattle.gn_numbers.specs.declared.causes.Cause.TheVariants as cause
 use Rattle.gn_text.specs.Faults.{numbered_at, ◌>>=◌}
 use Rattle.gn_text.specs.Header.{config_from, header_of, own_from}
 use Rattle.gn_rules.specs.declared.limits.Numbers.{Numbers}
 use Rattle.gn_text.specs.Settings.{config_of, own_of}
-use Rattle.gn_text.specs.declared.title.Text.{Text}
+use Rattle.gn_numbers.specs.declared.titles.Text.{Text}
 use Rattle.gn_numbers.specs.declared.version.Version.{Version}
-use Rattle.gn_text.specs.Titles.{version_of}
+use Rattle.gn_numbers.specs.Names.{version_of}
 use Rattle.gn_text.proofs.ConfigLemmas.{ArePassed, IsConfigured, config_is_within, made}
 
 -- the settings that a text's first lines say, and the lines after them

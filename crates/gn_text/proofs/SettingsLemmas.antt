@@ -1,36 +1,22 @@
 -- Numbers within their limits, and fields that are too few or too many.
-use Rattle.std.proofs.Common.{◌≡◌, ◌<◌, ◌≤◌, nat_le, ◌&&◌, ℕ, List, [], ◌∷◌, length, refl, Bool, true, false, sym, ap, ◌∙◌, arith, Result, Ok, Err, Some, None}
-use Rattle.std.specs.Prelude.{IfOk, IfErr, option_map}
-use Rattle.std.specs.Result.{result_ok}
+use Rattle.std.proofs.Common.{◌≡◌, ◌<◌, ◌≤◌, nat_le, ℕ, List, [], ◌∷◌, length, refl, Bool, true, false, if◌then◌else◌, arith, Some, None}
 use Rattle.std.proofs.lemmas.Bool.Decides.{nat_tests}
 use Rattle.gn_rules.specs.Limits.{AreWithin, IsWithin, most}
-use Rattle.gn_rules.specs.Settings.{IsMadeOf, IsFirstOut}
+use Rattle.gn_rules.specs.Settings.{IsFirstOut, IsIn}
 use Rattle.gn_rules.specs.declared.config.Config.{Config}
-use Rattle.gn_rules.specs.declared.config.BadConfig.{BadConfig}
 use Rattle.gn_rules.specs.declared.config.Field.{Field}
 use Rattle.gn_rules.specs.declared.config.Field.TheVariants.{Neighbours, Seen, Servents, Stage, Out, Steps, Crowd}
-use Rattle.gn_rules.specs.declared.config.Own.{Own}
 use Rattle.gn_rules.specs.declared.limits.Numbers.{Numbers}
-use Rattle.gn_text.specs.Settings.{numbers_of, is_within, are_within, numbers_parsed, numbers_within, servent_parsed}
+use Rattle.gn_text.specs.Settings.{is_within, are_within, numbers_parsed, numbers_within, servent_parsed}
 use Rattle.gn_numbers.specs.declared.version.Version.{Version}
+use Rattle.gn_text.proofs.ConfigLemmas.{passed}
 
 within : (n limit : ℕ) → IsWithin n limit → is_within n limit ≡ true
 within n limit h = grind (arith, nat_tests)
 
-out_of : (n limit : ℕ) (b : Bool) → is_within n limit ≡ b → ¬ IsWithin n limit → is_within n limit ≡ false
-out_of n limit true e h = absurd (h (record { least = grind (arith, nat_tests); greatest = grind (arith, nat_tests) }))
-out_of n limit false e h = e
-
-beyond : (n limit : ℕ) → ¬ IsWithin n limit → is_within n limit ≡ false
-beyond n limit h = out_of n limit (is_within n limit) refl h
-
 -- up to a limit
 up_to : (n limit : ℕ) → n ≤ limit → nat_le n limit ≡ true
 up_to n limit h = grind (arith, nat_tests)
-
-over : (n limit : ℕ) (b : Bool) → nat_le n limit ≡ b → ¬ (n ≤ limit) → nat_le n limit ≡ false
-over n limit true e h = absurd (h (grind (arith, nat_tests)))
-over n limit false e h = e
 
 -- numbers within their limits pass the test
 pub all_within : (n : Numbers) → AreWithin n → are_within n ≡ true
@@ -50,56 +36,27 @@ all_within n are =
 pub config_within : (s : Config) → are_within s.numbers ≡ true
 config_within s = all_within s.numbers s.within
 
--- a test that ends in one that fails
-fails : (b : Bool) → (b && false) ≡ false
-fails true = refl
-fails false = refl
+-- numbers within their limits are taken
+pub taken : (n : Numbers) → AreWithin n → Some n ≡ numbers_within n
+taken n are = rw (all_within n are) refl
 
-first_out : (f : Field) (n : Numbers) → IsFirstOut f n → are_within n ≡ false
-first_out Neighbours n out = rw (beyond n.neighbours most.neighbours out.1) refl
-first_out Seen n out = rw (within n.neighbours most.neighbours out.0, beyond n.seen most.seen out.1) refl
-first_out Servents n out =
-    rw (within n.neighbours most.neighbours out.0.0, within n.seen most.seen out.0.1, beyond n.servents most.servents out.1) refl
-first_out Stage n out =
-    rw (
-      within n.neighbours most.neighbours out.0.0,
-      within n.seen most.seen out.0.1,
-      within n.servents most.servents out.0.2,
-      beyond n.stage most.stage out.1,
-    ) refl
-first_out Out n out =
-    rw (
-      within n.neighbours most.neighbours out.0.0,
-      within n.seen most.seen out.0.1,
-      within n.servents most.servents out.0.2,
-      within n.stage most.stage out.0.3,
-      beyond n.out most.out out.1,
-    ) refl
-first_out Steps n out =
-    rw (
-      within n.neighbours most.neighbours out.0.0,
-      within n.seen most.seen out.0.1,
-      within n.servents most.servents out.0.2,
-      within n.stage most.stage out.0.3,
-      within n.out most.out out.0.4,
-      beyond n.steps most.steps out.1,
-    ) refl
-first_out Crowd n out =
-    rw (
-      within n.neighbours most.neighbours out.0.0,
-      within n.seen most.seen out.0.1,
-      within n.servents most.servents out.0.2,
-      within n.stage most.stage out.0.3,
-      within n.out most.out out.0.4,
-      within n.steps most.steps out.0.5,
-      over n.crowd most.crowd (nat_le n.crowd most.crowd) refl out.1,
-    ) (fails (nat_le n.life most.life))
+-- where all are within their limits, the number of this name is
+each_in : (field : Field) (n : Numbers) → AreWithin n → IsIn field n
+each_in Neighbours n are = are.neighbours
+each_in Seen n are = are.seen
+each_in Servents n are = are.servents
+each_in Stage n are = are.stage
+each_in Out n are = are.out
+each_in Steps n are = are.steps
+each_in Crowd n are = are.crowd
 
-pub made_within : (n : Numbers) (own : Own) (r : Result Config BadConfig) → IfOk r (λ s. IsMadeOf s n own)
-    → IfErr r (λ bad. IsFirstOut bad.0 n) → option_map numbers_of (result_ok r) ≡ numbers_within n
-made_within n own (Ok s) made first =
-    let e : numbers_within s.numbers ≡ Some s.numbers = rw (config_within s) refl in sym e ∙ ap numbers_within made.0
-made_within n own (Err bad) made first = rw (first_out bad.0 n first) refl
+tested : (n : Numbers) (b : Bool) → are_within n ≡ b → ¬ AreWithin n → None ≡ (if b then Some n else None)
+tested n true e out = absurd (out (passed n e))
+tested n false e out = refl
+
+-- numbers of which one is out of its limit aren't taken
+pub not_taken : (n : Numbers) (field : Field) → IsFirstOut field n → None ≡ numbers_within n
+not_taken n field first = tested n (are_within n) refl (λ are. first.1 (each_in field n are))
 
 pub other_fields : (fields : List (List ℕ)) → ¬ (length fields ≡ 5) → None ≡ servent_parsed fields
 other_fields [] h = refl

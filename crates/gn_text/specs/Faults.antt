@@ -1,6 +1,6 @@
 -- What a reader of a text gives: what the text says, or its first fault.
 use Rattle.std.specs.Prelude.{◌≡◌, ℕ, Option, Some, None, Result, Ok, Err}
-use Rattle.gn_text.specs.declared.fault.Cause.{Cause}
+use Rattle.gn_numbers.specs.declared.causes.Cause.{Cause}
 use Rattle.gn_text.specs.declared.fault.CaptureFault.{CaptureFault}
 use Rattle.gn_text.specs.declared.fault.CaptureRefusal.{CaptureRefusal}
 use Rattle.gn_text.specs.declared.fault.CaptureRefusal.TheVariants.{Fault, NoMemory}

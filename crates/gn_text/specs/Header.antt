@@ -3,15 +3,15 @@ use Rattle.std.specs.Prelude.{ℕ, List, [], ◌∷◌, ◌++◌, codes, Result,
 use Rattle.gn_rules.specs.declared.config.Config.{Config}
 use Rattle.gn_rules.specs.declared.config.Own.{Own}
 use Rattle.gn_text.specs.Lines.{fields_of}
-use Rattle.gn_text.specs.declared.fault.Cause.TheVariants as cause
+use Rattle.gn_numbers.specs.declared.causes.Cause.TheVariants as cause
 use Rattle.gn_text.specs.declared.fault.CaptureFault.{CaptureFault}
-use Rattle.gn_text.specs.declared.title.Text.{Text}
+use Rattle.gn_numbers.specs.declared.titles.Text.{Text}
 use Rattle.gn_numbers.specs.declared.version.Version.{Version}
 use Rattle.gn_text.specs.Faults.{fault_at, numbered_at, ◌>>=◌}
 use Rattle.gn_text.specs.Parsed.{Numbered}
 use Rattle.gn_rules.specs.declared.limits.Numbers.{Numbers}
 use Rattle.gn_text.specs.Settings.{config_of, own_of, settings_of, settings_text}
-use Rattle.gn_text.specs.Titles.{title_of, version_of}
+use Rattle.gn_numbers.specs.Names.{title_of, version_of}
 use Rattle.gn_numbers.specs.Versions.{version_for}
 
 -- the lines from the third on: the servent, beside the numbers of the second line, and the lines after it

@@ -10,6 +10,5 @@ pub mod Parsed
 pub mod Settings
 pub mod Statistics
 pub mod Steps
-pub mod Titles
 -- Words of the proofs.
 pub mod Parts

@@ -2,21 +2,11 @@
 use Rattle.std.specs.Prelude.{ℕ, List, ◌++◌, codes, decimal}
 use Rattle.gn_wire.specs.declared.header.FrameFault.{FrameFault}
 use Rattle.gn_wire.specs.declared.header.FrameFault.TheVariants.{FixedLength, TooLong}
-use Rattle.gn_wire.specs.declared.kind.Kind.{Kind}
-use Rattle.gn_wire.specs.declared.kind.Kind.TheVariants.{Ping, Pong, Push, Query, QueryHit, Unknown}
+use Rattle.gn_numbers.specs.Names.{kind_names}
 
--- the name of a kind; only the first three have payloads of one length
-abbrev pub kind_text : Kind → List ℕ
-kind_text Ping = codes "ping"
-kind_text Pong = codes "pong"
-kind_text Push = codes "push"
-kind_text Query = codes "query"
-kind_text QueryHit = codes "queryhit"
-kind_text (Unknown code) = codes "unknown"
-
--- what is wrong with a payload's length, and the length
+-- what is wrong with a payload's length, and the length; only Pings, Pongs and Pushes have payloads of one length
 abbrev pub length_text : FrameFault → List ℕ
-length_text (FixedLength kind length) = codes "fixed " ++ kind_text kind ++ codes " " ++ decimal length
+length_text (FixedLength kind length) = codes "fixed " ++ (kind_names kind).word ++ codes " " ++ decimal length
 length_text (TooLong length) = codes "long " ++ decimal length
 
 -- the line of a descriptor that a link can't have

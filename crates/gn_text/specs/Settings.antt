@@ -13,13 +13,9 @@ use Rattle.gn_numbers.specs.Numbers.{number_of, number_below, ◌>>=◌}
 use Rattle.gn_numbers.specs.Versions.{later_parsed, later_text, version_for}
 use Rattle.hex.specs.Hex.{encode_lower}
 
--- those that a configuration keeps
-abbrev pub numbers_of : Config → Numbers
-numbers_of s = s.numbers
-
 -- what a configuration says: its numbers and its own servent
 abbrev pub settings_of : Config → Numbers × Own
-settings_of s = (numbers_of s, s.own)
+settings_of s = (s.numbers, s.own)
 
 -- a number is from 1 to its limit
 abbrev pub is_within : ℕ → ℕ → Bool

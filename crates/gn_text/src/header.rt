@@ -1,37 +1,34 @@
 //! The three lines that a text begins with.
 
 ghost use Rattle.std.specs.Prelude.{◌≡◌, ◌++◌, length, take, OnOk, OnErr};
+ghost use Rattle.gn_rules.specs.Limits.{AreWithin};
 ghost use Rattle.gn_text.specs.Faults.{IsRead};
 ghost use Rattle.gn_text.specs.Header.{config_from, header_of, header_seen, header_text, own_from, title_text};
-ghost use Rattle.gn_text.specs.Settings.{numbers_of};
 
-use crate::fault::{CaptureRefusal, Cause};
+use crate::fault::CaptureRefusal;
 use crate::line::fields;
 use crate::parsed::NumberedLines;
 use crate::settings::{read_config, read_own, write_settings};
-use crate::title::{Text, read_version, title};
-use gn_numbers::{Version, least_version};
-use gn_rules::Config;
+use gn_numbers::{Cause, Text, Version, least_version, read_version, title};
+use gn_rules::{Config, Numbers};
 use gn_wire::whole_or_none;
 use std::alloc::{AllocError, Allocator};
 
-/// Reads the line `own` into a configuration.
+/// The configuration of these numbers and the servent that the line `own` says.
 #[tactic(auto, using(crate::proofs::FirstLines::own_read, crate::proofs::FirstLines::own_refused, crate::proofs::FirstLines::own_missing))]
 fn read_own_line<A: Allocator + Copy>(
     alloc: A,
-    mut config: Config,
+    numbers: Numbers,
     lines: &mut NumberedLines,
 ) -> Result<Config, CaptureRefusal>
-    ensures header { IsRead (λ whole. header_seen whole lines.new) result
-        (own_from (numbers_of config) lines.old.after lines.old.lines) }
+    requires { AreWithin numbers }
+    ensures header { IsRead (λ config. header_seen config lines.new) result
+        (own_from numbers lines.old.after lines.old.lines) }
     ensures after { lines.new.after ≡ lines.old.after }
 {
     match lines.next_line() {
         Ok((number, line)) => match read_own(alloc, &fields(alloc, line)?)? {
-            Some(own) => {
-                config.own = own;
-                Ok(config)
-            }
+            Some(own) => Ok(Config::with(numbers, own)),
             None => Err(CaptureRefusal::at(number, Cause::Own)),
         },
         Err(after) => Err(CaptureRefusal::at(after, Cause::Own)),
@@ -52,7 +49,7 @@ pub fn read_settings<A: Allocator + Copy>(
 {
     match lines.next_line() {
         Ok((number, line)) => match read_config(version, &fields(alloc, line)?) {
-            Some(config) => read_own_line(alloc, config, lines),
+            Some(numbers) => read_own_line(alloc, numbers, lines),
             None => Err(CaptureRefusal::at(number, Cause::Config)),
         },
         Err(after) => Err(CaptureRefusal::at(after, Cause::Config)),
@@ -112,7 +109,7 @@ fn write_title<B: Allocator>(
     ensures ok { OnOk result (out.new.items ≡ out.old.items ++ title_text text version) }
     ensures err { OnErr result (take (length out.old.items) out.new.items ≡ out.old.items) }
 {
-    out.extend_from_slice(title(text, version))?;
+    out.extend_from_slice(title(text, version).as_bytes())?;
     out.extend_from_slice(b"\n")
 }
 

@@ -17,11 +17,12 @@ mod reply;
 mod settings;
 mod statistics;
 mod step;
-mod title;
 
 pub use address::{ip, push_ip};
-pub use fault::{CaptureFault, CaptureRefusal, Cause};
-pub use gn_numbers::{Version, number, number_u8, number_u16};
+pub use fault::{CaptureFault, CaptureRefusal};
+pub use gn_numbers::{
+    Cause, Text, Version, cause_name, counter_name, number, number_u8, number_u16, read_version,
+};
 pub use header::{push_header, read_header, read_settings};
 pub use line::{fields, fields_in, fields_into, first_line, is_skipped, is_word};
 pub use link::{push_ended, push_frame_fault, push_greeting_refused};
@@ -33,4 +34,3 @@ pub use reply::push_reply;
 pub use settings::{read_config, read_own};
 pub use statistics::push_stats;
 pub use step::{push_step, push_step_of};
-pub use title::{Text, read_version};

@@ -1,25 +1,12 @@
 //! The lines of what happens to a link.
 
 ghost use Rattle.std.specs.Prelude.{◌≡◌, ◌++◌, OnOk, OnErr};
-ghost use Rattle.gn_text.specs.Links.{ended_text, frame_fault_text, greeting_refused_text, kind_text};
+ghost use Rattle.gn_text.specs.Links.{ended_text, frame_fault_text, greeting_refused_text};
 
 use crate::part::{Part, push_parts};
-use gn_wire::{FrameFault, Kind};
+use gn_numbers::kind_names;
+use gn_wire::FrameFault;
 use std::alloc::{AllocError, Allocator};
-
-/// The word of a kind.
-fn kind_name(kind: Kind) -> &'static [u8]
-    ensures { result.now ≡ kind_text kind }
-{
-    match kind {
-        Kind::Ping => b"ping",
-        Kind::Pong => b"pong",
-        Kind::Push => b"push",
-        Kind::Query => b"query",
-        Kind::QueryHit => b"queryhit",
-        Kind::Unknown(_) => b"unknown",
-    }
-}
 
 /// Appends the line of a descriptor that a link can't have, `fault LINK fixed KIND LENGTH` or `fault LINK long LENGTH`,
 /// the length in bytes of payload. An `Err` is out of memory, and changes nothing.
@@ -38,7 +25,7 @@ pub fn push_frame_fault<B: Allocator>(
                 Part::Word(b"fault "),
                 Part::Number(link),
                 Part::Word(b" fixed "),
-                Part::Word(kind_name(kind)),
+                Part::Word(kind_names(kind).word.as_bytes()),
                 Part::Word(b" "),
                 Part::Number(length),
                 Part::Word(b"\n"),

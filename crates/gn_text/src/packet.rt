@@ -33,7 +33,7 @@ fn push_header<B: Allocator>(
 }
 
 /// Appends a descriptor's header and then its payload, in hex digits. An `Err` is out of memory, and changes nothing.
-pub(crate) fn push_packet<A: Allocator, B: Allocator>(
+fn push_packet<A: Allocator, B: Allocator>(
     out: &mut Vec<u8, B>,
     packet: &Descriptor<A>,
 ) -> Result<(), AllocError>
@@ -45,6 +45,20 @@ pub(crate) fn push_packet<A: Allocator, B: Allocator>(
         [] => push_header(out, &header),
         [first, rest @ ..] => push_hex_of_both(out, &with_byte(&header, *first), rest),
     }
+}
+
+/// Appends a space and then a descriptor. An `Err` is out of memory, and changes nothing.
+pub(crate) fn push_packet_field<A: Allocator, B: Allocator>(
+    out: &mut Vec<u8, B>,
+    packet: &Descriptor<A>,
+) -> Result<(), AllocError>
+    ensures ok { OnOk result (out.new.items ≡ out.old.items ++ (codes " " ++ packet_text packet.now)) }
+    ensures err { OnErr result (out.new.items ≡ out.old.items) }
+{
+    let start = out.len();
+    out.extend_from_slice(b" ")?;
+    let written = push_packet(out, packet);
+    whole_or_none(out, start, written)
 }
 
 /// Puts what stands at a place, from the first index up to the second, in place of what stands from `start` on.
@@ -119,7 +133,7 @@ fn push_target<A: Allocator, B: Allocator>(
 }
 
 /// Appends the sends. An `Err` is out of memory, and leaves what stood there before as it was.
-pub(crate) fn write_sends<A: Allocator, B: Allocator>(
+fn write_sends<A: Allocator, B: Allocator>(
     out: &mut Vec<u8, B>,
     sends: &[Sending<A>],
 ) -> Result<(), AllocError>
@@ -136,4 +150,17 @@ pub(crate) fn write_sends<A: Allocator, B: Allocator>(
         place = (start, out.len());
     }
     Ok(())
+}
+
+/// Appends the sends. An `Err` is out of memory, and changes nothing.
+pub(crate) fn push_sends<A: Allocator, B: Allocator>(
+    out: &mut Vec<u8, B>,
+    sends: &[Sending<A>],
+) -> Result<(), AllocError>
+    ensures ok { OnOk result (out.new.items ≡ out.old.items ++ sends_text sends.now) }
+    ensures err { OnErr result (out.new.items ≡ out.old.items) }
+{
+    let start = out.len();
+    let written = write_sends(out, sends);
+    whole_or_none(out, start, written)
 }

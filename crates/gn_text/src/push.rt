@@ -1,6 +1,6 @@
 //! Numbers and bytes as they are written.
 
-ghost use Rattle.std.specs.Prelude.{◌≡◌, ◌<◌, ◌+◌, ◌*◌, ◌++◌, decimal, length, slice_index, OnErr, OnOk};
+ghost use Rattle.std.specs.Prelude.{◌≡◌, ◌<◌, ◌+◌, ◌*◌, ◌++◌, codes, decimal, length, slice_index, OnErr, OnOk};
 ghost use Rattle.hex.specs.Hex.{encode_lower, lower_digits};
 
 use gn_wire::whole_or_none;
@@ -37,6 +37,21 @@ pub(crate) fn push_named<B: Allocator>(
     let start = out.len();
     out.extend_from_slice(name)?;
     let written = push_number(out, number);
+    whole_or_none(out, start, written)
+}
+
+/// Appends a space and then letters as they stand. An `Err` is out of memory, and changes nothing.
+#[tactic(auto, using(crate::proofs::KeptLemmas::kept))]
+pub(crate) fn push_field<B: Allocator>(
+    out: &mut Vec<u8, B>,
+    letters: &[u8],
+) -> Result<(), AllocError>
+    ensures ok { OnOk result (out.new.items ≡ out.old.items ++ (codes " " ++ letters.now)) }
+    ensures err { OnErr result (out.new.items ≡ out.old.items) }
+{
+    let start = out.len();
+    out.extend_from_slice(b" ")?;
+    let written = out.extend_from_slice(letters);
     whole_or_none(out, start, written)
 }
 

@@ -1,8 +1,9 @@
 //! The lines of a configuration, read and written.
 #![tactic(auto, using(crate::proofs::KeptLemmas::kept))]
 
-ghost use Rattle.std.specs.Prelude.{◌≡◌, length, map, option_map, take, IfOk, ◌++◌, OnOk, OnErr};
-ghost use Rattle.gn_text.specs.Settings.{config_of, numbers_of, numbers_parsed, numbers_within, each_within, own_of, servent_parsed, six_text, config_text, own_text, settings_text};
+ghost use Rattle.std.specs.Prelude.{◌≡◌, length, map, take, IfOk, IfSome, ◌++◌, OnOk, OnErr};
+ghost use Rattle.gn_rules.specs.Limits.{AreWithin};
+ghost use Rattle.gn_text.specs.Settings.{config_of, numbers_parsed, numbers_within, each_within, own_of, servent_parsed, six_text, config_text, own_text, settings_text};
 ghost use Rattle.gn_numbers.specs.Versions.{later_text, version_for};
 
 use crate::address::{ip, push_ip};
@@ -11,22 +12,11 @@ use crate::octets::guid;
 use crate::part::{Part, push_parts};
 use gn_numbers::{Later, Version, least_version, number, number_u16, read_later};
 use gn_rules::{Config, Numbers, Own};
-use gn_wire::Guid;
 use std::alloc::{AllocError, Allocator};
 
-/// A servent of which nothing is known yet.
-const BLANK: Own = Own {
-    servent: Guid([0; 16]),
-    ip: [0; 4],
-    port: 0,
-    files: 0,
-    kbytes: 0,
-};
-
-/// The configuration of these numbers, where each is within its limit.
-#[tactic(auto, using(crate::proofs::SettingsLemmas::made_within))]
-fn within(k: u32, n: u32, m: u32, t: u32, w: u32, h: u32, later: Later) -> Option<Config>
-    ensures { option_map numbers_of result ≡ numbers_within (record {
+/// These numbers, where each is within its limit.
+fn within(k: u32, n: u32, m: u32, t: u32, w: u32, h: u32, later: Later) -> Option<Numbers>
+    ensures value { result ≡ numbers_within (record {
       neighbours = k;
       seen = n;
       servents = m;
@@ -36,6 +26,7 @@ fn within(k: u32, n: u32, m: u32, t: u32, w: u32, h: u32, later: Later) -> Optio
       life = later.life;
       crowd = later.crowd;
     }) }
+    ensures each { IfSome result AreWithin }
 {
     let numbers = Numbers {
         neighbours: k,
@@ -47,10 +38,13 @@ fn within(k: u32, n: u32, m: u32, t: u32, w: u32, h: u32, later: Later) -> Optio
         life: later.life,
         crowd: later.crowd,
     };
-    Config::of(numbers, BLANK).ok()
+    match numbers.first_out() {
+        Some(_) => None,
+        None => Some(numbers),
+    }
 }
 
-/// The configuration of six numbers and those after them, where all are there and each is within its limit.
+/// Six numbers and those after them, where all are there and each is within its limit.
 fn each_within(
     k: Option<u32>,
     n: Option<u32>,
@@ -59,15 +53,17 @@ fn each_within(
     w: Option<u32>,
     h: Option<u32>,
     later: Option<Later>,
-) -> Option<Config>
-    ensures { option_map numbers_of result ≡ each_within k n m t w h later }
+) -> Option<Numbers>
+    ensures value { result ≡ each_within k n m t w h later }
+    ensures each { IfSome result AreWithin }
 {
     within(k?, n?, m?, t?, w?, h?, later?)
 }
 
 /// The numbers of a `config` line of this version, each within its limits.
-fn read_numbers(version: Version, fields: &[&[u8]]) -> Option<Config>
-    ensures { option_map numbers_of result ≡ numbers_parsed version (map (λ x. x.now) fields.now) }
+fn read_numbers(version: Version, fields: &[&[u8]]) -> Option<Numbers>
+    ensures value { result ≡ numbers_parsed version (map (λ x. x.now) fields.now) }
+    ensures each { IfSome result AreWithin }
 {
     match fields {
         [k, n, m, t, w, h, later @ ..] => each_within(
@@ -83,10 +79,11 @@ fn read_numbers(version: Version, fields: &[&[u8]]) -> Option<Config>
     }
 }
 
-/// The configuration that the fields of a line `config K N M T W H` say, in the second version with L behind them and in the
-/// third with L and Q, its own servent still blank. Where a number is out of its limit they say none.
-pub fn read_config(version: Version, fields: &[&[u8]]) -> Option<Config>
-    ensures { option_map numbers_of result ≡ config_of version (map (λ x. x.now) fields.now) }
+/// The numbers that the fields of a line `config K N M T W H` say, in the second version with L behind them and in the third
+/// with L and Q. Where one is out of its limit they say none.
+pub fn read_config(version: Version, fields: &[&[u8]]) -> Option<Numbers>
+    ensures value { result ≡ config_of version (map (λ x. x.now) fields.now) }
+    ensures each { IfSome result AreWithin }
 {
     match fields {
         [word, numbers @ ..] if is_word(word, b"config") => read_numbers(version, numbers),

@@ -2,36 +2,13 @@
 #![tactic(auto, using(crate::proofs::KeptLemmas::kept))]
 
 ghost use Rattle.std.specs.Prelude.{◌≡◌, ◌++◌, length, take, OnOk, OnErr};
-ghost use Rattle.gn_text.specs.Statistics.{count_text, counter_text, counts_text, stats_text};
+ghost use Rattle.gn_text.specs.Statistics.{count_text, counts_text, stats_text};
 
 use crate::part::{Part, push_parts};
+use gn_numbers::counter_name;
 use gn_rules::{Counter, Stats};
 use gn_wire::whole_or_none;
 use std::alloc::{AllocError, Allocator};
-
-/// The word of a counter.
-pub(crate) fn counter_name(counter: Counter) -> &'static [u8]
-    ensures { result.now ≡ counter_text counter }
-{
-    match counter {
-        Counter::Connected => b"connected",
-        Counter::TooMany => b"toomany",
-        Counter::Closed => b"closed",
-        Counter::Admitted => b"admitted",
-        Counter::Busy => b"busy",
-        Counter::Crowded => b"crowded",
-        Counter::Routed => b"routed",
-        Counter::UnknownKind => b"unknownkind",
-        Counter::Malformed => b"malformed",
-        Counter::Duplicate => b"duplicate",
-        Counter::NoRoute => b"noroute",
-        Counter::RouteGone => b"routegone",
-        Counter::BackToSender => b"backtosender",
-        Counter::Expired => b"expired",
-        Counter::Taken => b"taken",
-        Counter::Sent => b"sent",
-    }
-}
 
 /// Appends a counter's word and its number. An `Err` is out of memory, and changes nothing.
 fn push_count<B: Allocator>(
@@ -46,7 +23,7 @@ fn push_count<B: Allocator>(
         out,
         &[
             Part::Word(b" "),
-            Part::Word(counter_name(counter)),
+            Part::Word(counter_name(counter).as_bytes()),
             Part::Word(b" "),
             Part::Number(stats.get(counter)),
         ],

@@ -27,6 +27,7 @@ use Rattle.gn_threads.specs.OpenRuns.{IsOpenAnswer, IsOpenEnded, IsOpenFault, Is
 use Rattle.gn_threads.specs.declared.open_account.OpenAccount.{OpenAccount}
 use Rattle.std.proofs.lemmas.Simd.{map-map}
 use Rattle.gn_threads.specs.Left.{IsFaultAt, IsOpenedFor, ends_in, may_in}
+use Rattle.gn_start.proofs.FinishLemmas.{get_mapped}
 use Rattle.gn_threads.proofs.HoldsLemmas.{are_arrived, are_made}
 use Rattle.gn_start.specs.declared.over.Over.{Over}
 use Rattle.gn_threads.proofs.ListLemmas.{all_of, first_of}
@@ -42,11 +43,6 @@ from_map f [] k y is = absurd (cc)
 from_map f (x ∷ xs) zero y is = (x, refl, cc)
 from_map f (x ∷ xs) (suc k) y is = from_map f xs k y is
 
-to_map : {X Y : Type 0} (f : X → Y) (xs : List X) (k : ℕ) (x : X) → slice_get xs k ≡ Some x → slice_get (map f xs) k ≡ Some (f x)
-to_map f [] k x is = absurd (cc)
-to_map f (x ∷ xs) zero y is = let same : x ≡ y = cc in ap (λ z. Some (f z)) same
-to_map f (x ∷ xs) (suc k) y is = to_map f xs k y is
-
 module _ {Rd W K B A O F : Type 0} (views : LinkViews Rd W O) (foreknown : O → F) (roles : List Role) (coming : List F) (over : Over Rd W K B A)
     (came : HaveCome views foreknown true (may_in roles coming) (ends_in roles) over) (here : over.is_lost ≡ false) (well : over.fault ≡ None) (accounts : List (LinkAccount Rd W A))
     (are : over.links.items ≡ map (λ link. Whole link) accounts) where
@@ -58,7 +54,7 @@ module _ {Rd W K B A O F : Type 0} (views : LinkViews Rd W O) (foreknown : O →
   ended_so : (k : ℕ) (link : LinkAccount Rd W A) → slice_get accounts k ≡ Some link → slice_get over.links.items k ≡ Some (Whole link)
   ended_so k link is =
       let whole : LinkAccount Rd W A → LinkEnd Rd W A = λ a. Whole a in
-      ap (λ (es : List (LinkEnd Rd W A)). slice_get es k) are ∙ to_map whole accounts k link is
+      ap (λ (es : List (LinkEnd Rd W A)). slice_get es k) are ∙ get_mapped whole accounts k link is
 
   -- they came in these roles, all of them
   pub roles_came : map (λ (link : LinkAccount Rd W A). link.role) accounts ≡ roles
@@ -145,7 +141,7 @@ module _ {Rd W K B A O F : Type 0} (turns batch : ℕ) (views : LinkViews Rd W O
   each_came account links k link is =
       let whole : LinkAccount Rd W A → LinkEnd Rd W A = λ a. Whole a in
       let at : slice_get over.links.items k ≡ Some (whole link) =
-      ap (λ (es : List (LinkEnd Rd W A)). slice_get es k) links.1 ∙ to_map whole account.links.items k link is in
+      ap (λ (es : List (LinkEnd Rd W A)). slice_get es k) links.1 ∙ get_mapped whole account.links.items k link is in
       came.may_come (lost (stopped links.0)) k link at
 
   -- its links are the first of those that were to come

@@ -3,7 +3,7 @@ use Rattle.std.proofs.Common.{◌≡◌, ◌==◌, ◌&&◌, ℕ, Bool, true, no
 use Rattle.std.specs.List.{cons_option, list_all, slice_get}
 use Rattle.std.proofs.lemmas.Bool.{and_parts, eqb-true}
 use Rattle.gn_rules.specs.declared.event.Event.{Event}
-use Rattle.gn_rules.specs.declared.event.Event.TheVariants.{Admit, Close, Connect, Originate, Route, Take}
+use Rattle.gn_rules.specs.declared.event.Event.TheVariants.{Connect}
 use Rattle.gn_rules.specs.declared.receipt.Receipt.{Receipt}
 use Rattle.gn_rules.specs.declared.receipt.Step.{Step}
 use Rattle.gn_rules.specs.History.{ticket_of}
@@ -37,20 +37,7 @@ none_of (x ∷ xs) e = absurd (omega (arith, eqb-true (length (x ∷ xs)) 0 e))
 -- a Connect that was replied TooMany
 turned_one : {A : Type 0} (event : Event A) (answer : Reply A) → is_turned_away event answer ≡ true → (event ≡ Connect) × (answer ≡ reply.TooMany)
 turned_one Connect reply.TooMany e = (refl, refl)
-turned_one Connect (reply.Connected c) e = cc
-turned_one Connect (reply.Closed n) e = cc
-turned_one Connect (reply.Admitted t) e = cc
-turned_one Connect reply.Busy e = cc
-turned_one Connect reply.Crowded e = cc
-turned_one Connect (reply.Routed sends local) e = cc
-turned_one Connect (reply.Dropped reason) e = cc
-turned_one Connect (reply.Taken packet) e = cc
-turned_one Connect (reply.Sent sends) e = cc
-turned_one (Close c) answer e = cc
-turned_one (Admit c d) answer e = cc
-turned_one (Route t) answer e = cc
-turned_one (Take c) answer e = cc
-turned_one (Originate d) answer e = cc
+turned_one event answer e = cc
 
 -- whose one event is such a Connect made no other and has no connection
 turned_away : {A : Type 0} (own : List (Receipt A)) → ((length own == 1) && list_all (λ r. is_turned_away r.event r.reply) own) ≡ true
@@ -81,15 +68,11 @@ reader_row turns steps writer first role own half GreetingRefused None is reads 
 reader_row turns steps writer first role own half GreetingCut None is reads confirms =
     (reads.counts, none_of own confirms, λ known. ((reads.row known).0, tt))
 reader_row turns steps writer first role own half TooMany None is reads confirms = (confirms, λ known. ((reads.row known).0, tt))
-reader_row turns steps writer first role own half GreetingRefused (Some c) is reads confirms =
-    let no : Some c ≡ None = is ∙ ap conn_made (none_of own confirms) in absurd (cc)
-reader_row turns steps writer first role own half GreetingCut (Some c) is reads confirms =
-    let no : Some c ≡ None = is ∙ ap conn_made (none_of own confirms) in absurd (cc)
 reader_row turns steps writer first role own half TooMany (Some c) is reads confirms =
     let no : Some c ≡ None = is ∙ (turned_away own confirms).1 in absurd (cc)
-reader_row turns steps writer first role own half Bytes None is reads confirms = absurd (cc)
-reader_row turns steps writer first role own half (Fault f) None is reads confirms = absurd (cc)
-reader_row turns steps writer first role own half NotLive None is reads confirms = absurd (cc)
+reader_row turns steps writer first role own half end (Some c) is reads confirms =
+    let no : Some c ≡ None = is ∙ ap conn_made (none_of own confirms) in absurd (cc)
+reader_row turns steps writer first role own half end None is reads confirms = absurd (cc)
 
 -- and its row says all of that
 pub reader_back : {A : Type 0} (turns : ℕ) (steps : List (Step A)) (writer : ℕ) (first : Bool) (role : Role) (own : List (Receipt A)) (half : ReadHalf) (end : ReaderEnd) (conn : Option ℕ)
@@ -107,12 +90,7 @@ reader_back {A} turns steps writer first role own half GreetingRefused None row 
 reader_back {A} turns steps writer first role own half GreetingCut None row =
     (λ known. ((row.2 known).0, ap link_events_in row.1), ap (λ (rs : List (Receipt A)). length rs == 0) row.1)
 reader_back turns steps writer first role own half TooMany None row = (λ known. ((row.1 known).0, (turned_away own row.0).0), row.0)
-reader_back turns steps writer first role own half GreetingRefused (Some c) row = absurd row
-reader_back turns steps writer first role own half GreetingCut (Some c) row = absurd row
-reader_back turns steps writer first role own half TooMany (Some c) row = absurd row
-reader_back turns steps writer first role own half Bytes None row = absurd row
-reader_back turns steps writer first role own half (Fault f) None row = absurd row
-reader_back turns steps writer first role own half NotLive None row = absurd row
+reader_back turns steps writer first role own half end conn row = absurd row
 
 -- the same of a writer
 pub writer_row : {A : Type 0} (batch : ℕ) (steps : List (Step A)) (roles : List Role) (writer : ℕ) (role : Role) (own : List (Receipt A)) (half : WrittenHalf) (end : WriterEnd) (conn : Option ℕ)
@@ -123,9 +101,7 @@ writer_row batch steps roles writer role own half Closed (Some c) writes confirm
 writer_row batch steps roles writer role own half WriteFailed (Some c) writes confirms = (record { part = writes.row; hurt = writes.hurt refl }, confirms)
 writer_row batch steps roles writer role own half WriteFailed None writes confirms = (record { part = writes.row; hurt = writes.hurt refl }, confirms)
 writer_row batch steps roles writer role own half NeverOpened None writes confirms = writes.row
-writer_row batch steps roles writer role own half Drained None writes confirms = absurd (cc)
-writer_row batch steps roles writer role own half Closed None writes confirms = absurd (cc)
-writer_row batch steps roles writer role own half NeverOpened (Some c) writes confirms = absurd (cc)
+writer_row batch steps roles writer role own half end conn writes confirms = absurd (cc)
 
 pub writer_back : {A : Type 0} (batch : ℕ) (steps : List (Step A)) (roles : List Role) (writer : ℕ) (role : Role) (own : List (Receipt A)) (half : WrittenHalf) (end : WriterEnd) (conn : Option ℕ)
     → WriterEnds batch steps roles writer role own half end conn
@@ -135,9 +111,7 @@ writer_back batch steps roles writer role own half Closed (Some c) row = row
 writer_back batch steps roles writer role own half WriteFailed (Some c) row = (row.0.part, row.1)
 writer_back batch steps roles writer role own half WriteFailed None row = (row.0.part, row.1)
 writer_back batch steps roles writer role own half NeverOpened None row = (row, refl)
-writer_back batch steps roles writer role own half Drained None row = absurd row
-writer_back batch steps roles writer role own half Closed None row = absurd row
-writer_back batch steps roles writer role own half NeverOpened (Some c) row = absurd row
+writer_back batch steps roles writer role own half end conn row = absurd row
 
 -- what the headline says of a link's reader, as the body promised it and as the history confirms it
 pub link_read : {Rd W A : Type 0} (reads : Rd → ReadHalf) (writes : W → WrittenHalf) (turns batch : ℕ) (roles : List Role) (report : Report Rd W A) (k : ℕ) (role : Role) (link : LinkReport Rd W A)

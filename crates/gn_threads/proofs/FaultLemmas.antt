@@ -3,7 +3,7 @@ use Rattle.std.proofs.Common.{◌≡◌, ℕ, Bool, true, false, List, length, R
 use Rattle.std.specs.Prelude.{IfErr, IsErrAnd}
 use Rattle.std.proofs.lemmas.Result.{err_from_is_err_and}
 use Rattle.gn_start.specs.declared.fault.RunFault.{RunFault}
-use Rattle.gn_start.specs.declared.fault.RunFault.TheVariants.{BadWorkers, Listen, Call, Link, HistoryFull, NoMemory, Stage, Audit}
+use Rattle.gn_start.specs.declared.fault.RunFault.TheVariants.{Listen, Call, Link, NoMemory}
 use Rattle.gn_links.specs.declared.split.SplitFault.{SplitFault}
 use Rattle.gn_links.specs.declared.split.SplitFault.TheVariants as split
 use Rattle.gn_links.specs.Split.{IsSplitFault}
@@ -21,36 +21,22 @@ split_is_fault may workers split.NoMemory one = tt
 
 -- what it may be once they were taken apart it may be where they are there whole
 pub in_whole : (may : List Bool) (workers : ℕ) (fault : RunFault) → IsFaultOf (length may) workers fault → IsWholeFault may workers fault
-in_whole may workers BadWorkers holds = holds
-in_whole may workers Listen holds = holds
-in_whole may workers (Call k) holds = holds
 in_whole may workers (Link k) holds = absurd holds
-in_whole may workers HistoryFull holds = holds
-in_whole may workers NoMemory holds = holds
-in_whole may workers (Stage fault) holds = holds
-in_whole may workers (Audit a) holds = holds
+in_whole may workers fault holds = holds
 
 -- what it may be where all links are there it may be where they come one after another
 pub in_arriving : (has_peers : Bool) (links workers : ℕ) (fault : RunFault) → IsFaultOf links workers fault → IsArrivingFault has_peers links workers fault
-in_arriving has_peers links workers BadWorkers holds = holds
 in_arriving has_peers links workers Listen holds = absurd holds
 in_arriving has_peers links workers (Call k) holds = absurd holds
 in_arriving has_peers links workers (Link k) holds = absurd holds
-in_arriving has_peers links workers HistoryFull holds = holds
-in_arriving has_peers links workers NoMemory holds = holds
-in_arriving has_peers links workers (Stage fault) holds = holds
-in_arriving has_peers links workers (Audit a) holds = holds
+in_arriving has_peers links workers fault holds = holds
 
 -- where there are no peers the two are the same
 pub without_peers : (links workers : ℕ) (fault : RunFault) → IsArrivingFault false links workers fault → IsFaultOf links workers fault
-without_peers links workers BadWorkers holds = holds
 without_peers links workers Listen holds = absurd (cc)
 without_peers links workers (Call k) holds = let no : false ≡ true = holds.0 in absurd (cc)
 without_peers links workers (Link k) holds = let no : false ≡ true = holds.0 in absurd (cc)
-without_peers links workers HistoryFull holds = holds
-without_peers links workers NoMemory holds = holds
-without_peers links workers (Stage fault) holds = holds
-without_peers links workers (Audit a) holds = holds
+without_peers links workers fault holds = holds
 
 -- so of a run with as many workers as it may have, over links of which as much is known
 pub err_without_peers : {T E : Type 0} (of : E → RunFault) (may : List Bool) (links workers : ℕ) (r : Result T E) → length may ≡ links

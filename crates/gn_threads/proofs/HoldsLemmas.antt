@@ -25,7 +25,8 @@ use Rattle.gn_threads.specs.Answers.{AreArrived}
 use Rattle.gn_threads.specs.Headline.{AreMadeOf, LinkHolds, LinksReadOwn, ReadOwn}
 use Rattle.gn_start.specs.Over.{AllEnded}
 use Rattle.gn_threads.proofs.EndLemmas.{reader_row, writer_row}
-use Rattle.gn_threads.proofs.ListLemmas.{same_maps, some_of}
+use Rattle.gn_report.proofs.ConfirmedLemmas.{some_of}
+use Rattle.gn_threads.proofs.ListLemmas.{same_maps}
 
 module _ {Rd W A O : Type 0} (turns batch : ℕ) (views : LinkViews Rd W O) (account : Account Rd W A) (all : AllEnded turns batch views account.history.items account.links.items) where
   -- a link as the report of the account has it

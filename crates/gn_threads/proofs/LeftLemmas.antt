@@ -32,7 +32,8 @@ use Rattle.gn_threads.specs.Homecoming.{AreAllOut, receipts_in, with_all_home}
 use Rattle.gn_report.specs.Looks.{AreCounted}
 use Rattle.gn_threads.specs.Left.{HasKept, IsGathered, IsOverWith}
 use Rattle.gn_threads.proofs.HomeLemmas.{all_out, as_many_lists, other_list, own_list}
-use Rattle.gn_threads.proofs.ListLemmas.{each_of_four, some_of}
+use Rattle.gn_report.proofs.ConfirmedLemmas.{some_of}
+use Rattle.gn_threads.proofs.ListLemmas.{each_of_four}
 
 each_kept : {Rd W A : Type 0} (links : List (LinkAccount Rd W A)) → filter_map account_in (map (λ (end : LinkEnd Rd W A). Some end) (map (λ link. Whole link) links)) ≡ links
 each_kept [] = refl

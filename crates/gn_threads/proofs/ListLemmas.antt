@@ -4,11 +4,6 @@ use Rattle.std.proofs.Math.Seq.{take-length}
 use Rattle.std.proofs.lemmas.List.{length-append, length-map}
 use Rattle.std.specs.List.{slice_get}
 
--- one of which there are some
-pub some_of : {X : Type 0} (xs : List X) → 0 < length xs → X
-some_of [] some = absurd (omega (arith, some))
-some_of (x ∷ xs) some = x
-
 -- two maps that say the same of each say the same of all
 pub same_maps : {X Y : Type 0} (f g : X → Y) (xs : List X) → ((k : ℕ) (d : X) → k < length xs → f (get_or xs k d) ≡ g (get_or xs k d)) → map f xs ≡ map g xs
 same_maps f g [] same = refl

@@ -1,6 +1,6 @@
 -- A loop that makes one thing of each that it takes.
-use Rattle.std.proofs.Common.{◌≡◌, ◌++◌, ◌∷◌, List, [], length, map, ap, sym, ◌∙◌}
-use Rattle.std.proofs.lemmas.List.{append-nil, append_assoc, map-append, nil_from_length}
+use Rattle.std.proofs.Common.{◌≡◌, ◌++◌, ◌∷◌, List, [], map, ap, sym, ◌∙◌}
+use Rattle.std.proofs.lemmas.List.{append_assoc, map-append}
 
 -- nothing is made, and nothing is taken
 pub none_taken : {H S X : Type 0} (f : H → X) (k : S → X) (hs : List H) (rest all : List S) → hs ≡ [] → rest ≡ all → map f hs ++ map k rest ≡ map k all
@@ -19,14 +19,7 @@ pub one_moved : {S X : Type 0} (k : S → X) (xs more : List X) (rest left : Lis
 one_moved k xs more rest left x all one next before =
     ap (λ v. v ++ map k left) one ∙ append_assoc xs (k x ∷ []) (map k left) ∙ ap (λ r. xs ++ map k r) (sym next) ∙ before
 
--- none is left
-pub all_moved : {S X : Type 0} (k : S → X) (xs : List X) (rest : List S) (all : List X) → length rest ≡ 0 → xs ++ map k rest ≡ all → xs ≡ all
-all_moved k xs rest all none before = sym (append-nil xs) ∙ ap (λ r. xs ++ map k r) (sym (nil_from_length rest none)) ∙ before
-
 -- the same where the others are images, too
 pub one_started : {H S X : Type 0} (f : H → X) (k : S → X) (hs more : List H) (rest left : List S) (x : S) (all : List X) → map f more ≡ map f hs ++ k x ∷ [] → rest ≡ x ∷ left
     → map f hs ++ map k rest ≡ all → map f more ++ map k left ≡ all
 one_started f k hs more rest left x all one next before = one_moved k (map f hs) (map f more) rest left x all one next before
-
-pub all_started : {H S X : Type 0} (f : H → X) (k : S → X) (hs : List H) (rest : List S) (all : List X) → length rest ≡ 0 → map f hs ++ map k rest ≡ all → map f hs ≡ all
-all_started f k hs rest all none before = all_moved k (map f hs) rest all none before

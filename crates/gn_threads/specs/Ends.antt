@@ -115,8 +115,7 @@ WriterEnds batch steps roles writer role own half Drained (Some c) =
 WriterEnds batch steps roles writer role own half Closed (Some c) =
     (half.is_known ≡ true → half.bytes ≡ concat (texts_of role own))
     × (list_any (λ step. not (step.actor == writer) && is_close c step.event) steps ≡ true)
--- a write failed or wrote no bytes: of the connection request, and the writer made no event; or of another text, and somebody
--- closed c
+-- a write failed or wrote no bytes; and the link calls and its writer made no event, or somebody closed c
 WriterEnds batch steps roles writer role own half WriteFailed (Some c) =
     IsHurt batch half (texts_of role own)
     × (((is_calling role && (length own == 0)) || list_any (λ step. is_close c step.event) steps) ≡ true)

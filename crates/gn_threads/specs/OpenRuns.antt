@@ -73,14 +73,14 @@ pub record IsOpenAnswer {Rd W A O F : Type 0} (originates : Bool) (views : LinkV
 
 -- what holds of the account of an open run of this configuration and of so many workers, whatever steps of before its house made again
 pub record IsOpenHistory {Rd W A O : Type 0} (views : LinkViews Rd W O) (s : Config) (workers : ℕ) (account : OpenAccount Rd W A) : Type 0 where
-  -- its history, those steps with it, is legal, and no step is of anybody but its actors
+  -- its history is legal, and no step is of anybody but its actors
   pub legal : IsLegal s (reverse account.history.items)
   pub only : list_all (λ step. nat_lt step.actor (1 + workers + (length account.links.items + length account.links.items))) account.history.items ≡ true
   -- each actor's receipts are its own steps, each once and in order, in the numbers of known links
   pub own : AreWhole (known_steps account) (all_receipts account.links.items account.workers.items account.house)
   -- the workers made no event but Route; at the end nothing is in flight
   pub routes : (list_all is_routing (map unkept_list account.workers.items) ≡ true) × ((length (flying (reverse account.history.items)) == 0) ≡ true)
-  -- each link's reader and writer did what their ends say, in those numbers, a writer with some most packets that it takes at once
+  -- each link ended as `IsLinkEnded` says, in those numbers, its writer with some most packets at once; no order of ends is said
   pub each : (batch : ℕ) × AllEnded (most_reads s.numbers.steps) batch views (known_steps account) account.links.items
   -- each reader read what the link that it was made of gives, and both halves of a link were made of one
   pub arrived : AreArrived views.reads views.gives views.reader_of views.writer_of (known_report account)

@@ -1,34 +1,18 @@
 -- A Query Hit that a step admitted.
-use Rattle.std.proofs.Common.{◌≡◌, ◌+◌, ℕ, ◌<◌, List, ◌∷◌, ◌++◌, get_or, take, drop, reverse, length, Some, refl, sym, ap, subst, ◌∙◌}
+use Rattle.std.proofs.Common.{◌≡◌, ℕ, List, ◌∷◌, Some, sym, ap, subst}
 use Rattle.std.specs.List.{Contains}
 use Rattle.std.specs.Option.{option_to_list}
 use Rattle.std.proofs.lemmas.List.Elements.{Contains-append_right}
-use Rattle.gn_wire.specs.Packet.{Packet}
-use Rattle.gn_wire.specs.declared.kind.Kind.TheVariants.{Query, QueryHit}
+use Rattle.gn_wire.specs.declared.kind.Kind.TheVariants.{Query}
 use Rattle.gn_rules.specs.declared.config.Config.{Config}
 use Rattle.gn_rules.specs.declared.receipt.Step.{Step}
-use Rattle.gn_rules.proofs.PastLemmas.{past_more}
 use Rattle.gn_paths.specs.Networks.{AnswersCameBack, AnswersCrossBack, AnswersFollow, CarriesInTime, IsNetwork}
 use Rattle.gn_paths.specs.Paths.{answered_kind}
 use Rattle.gn_paths.specs.Sends.{admitted_by, admitted_on}
 use Rattle.gn_paths.proofs.OriginLemmas.{admitted_later}
 use Rattle.gn_witness.specs.Pair.{CameOver, HitAdmitted, pair}
-use Rattle.gn_witness.proofs.LinkLemmas.{given_in, parts}
+use Rattle.gn_witness.proofs.LinkLemmas.{given_in}
 use Rattle.gn_witness.proofs.PairLemmas.{itself}
-
--- any step has the steps before it
-pub hit_at : {A : Type 0} (steps : List (Step A)) (i : ℕ) (step : Step A) → i < length steps → step ≡ get_or steps i step
-    → (c : ℕ) (hit : Packet) → admitted_by c step.event step.reply ≡ Some hit → hit.kind ≡ QueryHit → HitAdmitted (reverse steps) c
-hit_at steps i step within is c hit now kind =
-    record {
-      later = reverse (drop (i + 1) steps);
-      step = step;
-      earlier = reverse (take i steps);
-      stands = parts steps (i + 1) ∙ ap (λ past. reverse (drop (i + 1) steps) ++ past) (past_more steps i step within is);
-      hit = hit;
-      admitted = now;
-      is_hit = kind;
-    }
 
 -- what a step admitted is among all that was admitted
 hit_among : {A : Type 0} (past : List (Step A)) (c : ℕ) (came : HitAdmitted past c) → Contains (admitted_on past c) came.hit
@@ -43,7 +27,7 @@ module _ {A : Type 0} (back : AnswersCameBack A) (cross : AnswersCrossBack A) (f
   pub over : (came : HitAdmitted first c) → CarriesInTime second d first c → IsNetwork (pair s first c second d) → CameOver s first c second d
   over came timely net =
       let has = hit_among first c came in
-      let answers : answered_kind came.hit.kind ≡ Some Query = subst (λ k. answered_kind k ≡ Some Query) (sym came.is_hit) refl in
+      let answers : answered_kind came.hit.kind ≡ Some Query = ap answered_kind came.is_hit in
       record {
         joined = net;
         timely = timely;

@@ -41,14 +41,17 @@ pub parts : {A : Type 0} (steps : List (Step A)) (i : ℕ) → reverse steps ≡
 parts steps i = ap reverse (sym (take-append-drop i steps)) ∙ reverse-append (take i steps) (drop i steps)
 
 module _ {A : Type 0} (steps : List (Step A)) (i : ℕ) (step : Step A) (within : i < length steps) (is : step ≡ get_or steps i step) where
+  -- any step stands after those before it
+  pub stands_at : reverse steps ≡ reverse (drop (i + 1) steps) ++ step ∷ reverse (take i steps)
+  stands_at = parts steps (i + 1) ∙ ap (λ past. reverse (drop (i + 1) steps) ++ past) (past_more steps i step within is)
+
   -- what any step takes was taken
   pub taken_at : (c : ℕ) (p : Packet) → (if is_take c step.event then taken_of step.reply else None) ≡ Some p → Contains (taken (reverse steps) c) p
   taken_at c p now =
-      subst (λ (past : List (Step A)). Contains (taken past c) p) (sym (parts steps (i + 1)))
-      (taken_later (reverse (drop (i + 1) steps)) (reverse (take (i + 1) steps)) c p
-      (subst (λ (past : List (Step A)). Contains (taken past c) p) (sym (past_more steps i step within is))
+      subst (λ (past : List (Step A)). Contains (taken past c) p) (sym stands_at)
+      (taken_later (reverse (drop (i + 1) steps)) (step ∷ reverse (take i steps)) c p
       (Contains-append_right (taken (reverse (take i steps)) c) (option_to_list (if is_take c step.event then taken_of step.reply else None)) p
-      (given_in (if is_take c step.event then taken_of step.reply else None) p now))))
+      (given_in (if is_take c step.event then taken_of step.reply else None) p now)))
 
   -- a link that carries what the steps before admitted, and what this one does, carries what both do
   pub carries_more : (first : List (Step A)) (c d : ℕ) → ((p : Packet) → admitted_by d step.event step.reply ≡ Some p → Contains (taken first c) p)

@@ -1,5 +1,5 @@
 -- What the laws of one router say of packets.
-use Rattle.std.proofs.Common.{◌≡◌, ℕ, ◌+◌, ◌<◌, Bool, true, cond, List, ◌∷◌, ◌++◌, get_or, take, drop, reverse, length, sym, ap, subst, ◌∙◌, arith}
+use Rattle.std.proofs.Common.{◌≡◌, ℕ, ◌+◌, ◌<◌, Bool, true, cond, List, ◌∷◌, get_or, take, drop, reverse, length, sym, ap, subst, ◌∙◌, arith}
 use Rattle.std.specs.List.{Contains, count_by}
 use Rattle.std.proofs.lemmas.List.Sums.{sum_by_more_le}
 use Rattle.gn_wire.specs.declared.key.Key.{Key}
@@ -9,11 +9,10 @@ use Rattle.gn_rules.specs.declared.receipt.Step.{Step}
 use Rattle.gn_rules.specs.Answer.{IsLegal}
 use Rattle.gn_rules.specs.History.{sends_of}
 use Rattle.gn_rules.specs.Output.{taken}
-use Rattle.gn_rules.proofs.PastLemmas.{past_more}
 use Rattle.gn_paths.specs.Sends.{is_kept_kind, NothingFromNowhere, NotSentAgain, sends_of_key}
 use Rattle.gn_paths.proofs.OriginLemmas.{taken_queued}
 use Rattle.gn_witness.specs.Packets.{Queued, SentAgain, WasSent}
-use Rattle.gn_witness.proofs.LinkLemmas.{parts}
+use Rattle.gn_witness.proofs.LinkLemmas.{stands_at}
 
 -- what was taken had been queued, so it came from somewhere
 pub was_queued : {A : Type 0} → NothingFromNowhere A → (s : Config) (past : List (Step A)) (c : ℕ) (packet : Packet) → IsLegal s past → Contains (taken past c) packet
@@ -28,7 +27,7 @@ counted p xs i x within is has =
     let one : cond {A = ℕ} (p (get_or xs i x)) 1 0 ≡ 1 = ap (λ y. cond {A = ℕ} (p y) 1 0) (sym is) ∙ ap (λ b. cond {A = ℕ} b 1 0) has in
     omega (arith, one, sum_by_more_le (λ y. cond (p y) 1 0) xs i x within)
 
--- any step stands after those before it
+-- a step that sends a packet of a key
 pub sent_at : {A : Type 0} (steps : List (Step A)) (i : ℕ) (step : Step A) (key : Key) → i < length steps → step ≡ get_or steps i step → 0 < sends_of_key key (sends_of step.reply)
     → WasSent (reverse steps) key
 sent_at steps i step key within is sent =
@@ -36,7 +35,7 @@ sent_at steps i step key within is sent =
       between = reverse (drop (i + 1) steps);
       first = step;
       earlier = reverse (take i steps);
-      stands = parts steps (i + 1) ∙ ap (λ past. reverse (drop (i + 1) steps) ++ past) (past_more steps i step within is);
+      stands = stands_at steps i step within is;
       once = sent;
     }
 

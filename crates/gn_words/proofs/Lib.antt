@@ -1,3 +1,2 @@
-mod ConfigLemmas
-mod OptionLemmas
-mod WordLemmas
+pub mod OptionLemmas
+pub mod WordLemmas

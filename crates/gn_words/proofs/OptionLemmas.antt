@@ -7,8 +7,8 @@ use Rattle.std.specs.Str.{bytes_eq}
 use Rattle.clap.specs.Words.{Row, Text, first_of}
 use Rattle.gn_numbers.specs.Numbers.{number_of, ◌>>=◌}
 use Rattle.gn_words.specs.Options.{IsReadAs, accept_of, number_asked, number_between, retry_for, retry_of}
-use Rattle.gn_words.specs.declared.request.Retry.{Retry}
-use Rattle.gn_words.specs.declared.request.Retry.TheVariants.{Always}
+use Rattle.gn_words.specs.declared.retrying.Retry.{Retry}
+use Rattle.gn_words.specs.declared.retrying.Retry.TheVariants.{Always}
 use Rattle.gn_words.specs.declared.unread.Unread.{Unread}
 use Rattle.gn_words.specs.declared.unread.Unread.TheVariants.{Mistake, NoMemory}
 

@@ -1,6 +1,6 @@
 -- What is promised: contracts of public functions rest on it.
 pub mod ConfigTexts
 pub mod Options
+pub mod Pages
 pub mod Rows
-pub mod ServeOptions
-pub mod Words
+pub mod Sayings

@@ -1,24 +1,18 @@
 -- What the values of options say.
-use Rattle.std.specs.Prelude.{◌≡◌, ◌∷◌, ◌++◌, ◌==◌, ◌&&◌, ◌||◌, ℕ, Bool, false, true, List, [], Option, Some, None, Result, Ok, Err, codes, is_some, length, nat_le, not, option_map, slice_index, unwrap_or, if◌then◌else◌}
+use Rattle.std.specs.Prelude.{◌≡◌, ◌∷◌, ◌++◌, ◌==◌, ◌&&◌, ◌||◌, ℕ, Bool, false, true, List, [], Option, Some, None, Result, Ok, Err, codes, length, nat_le, not, option_map, slice_index, unwrap_or, if◌then◌else◌}
 use Rattle.std.specs.List.{slice_split}
 use Rattle.std.specs.Option.{option_map_or}
 use Rattle.std.specs.Str.{bytes_eq}
 use Rattle.clap.specs.Words.{Row, Text, all_of, first_of}
-use Rattle.gn_rules.specs.Limits.{most, most_workers}
-use Rattle.gn_rules.specs.declared.limits.Numbers.{Numbers}
 use Rattle.gn_text.specs.Addresses.{ip_of}
 use Rattle.gn_text.specs.Bytes.{guid_of}
 use Rattle.gn_numbers.specs.Numbers.{number_below, number_of, ◌>>=◌}
-use Rattle.gn_words.specs.ServeOptions.{AskedServe}
-use Rattle.gn_words.specs.declared.callers.Rates.{Rates}
-use Rattle.gn_words.specs.declared.serve.Shared.{Shared}
-use Rattle.gn_words.specs.declared.serve.Times.{Times}
-use Rattle.gn_words.specs.declared.request.Peer.{Peer}
-use Rattle.gn_words.specs.declared.request.Retry.{Retry}
-use Rattle.gn_words.specs.declared.request.Retry.TheVariants.{Never, For, Always}
-use Rattle.gn_words.specs.declared.request.Servent.{Servent}
-use Rattle.gn_words.specs.declared.request.Servent.TheVariants.{Given, Random}
-use Rattle.gn_words.specs.declared.request.Site.{Site}
+use Rattle.gn_words.specs.declared.peers.Peer.{Peer}
+use Rattle.gn_words.specs.declared.retrying.Retry.{Retry}
+use Rattle.gn_words.specs.declared.retrying.Retry.TheVariants.{Never, For, Always}
+use Rattle.gn_words.specs.declared.servent.Servent.{Servent}
+use Rattle.gn_words.specs.declared.servent.Servent.TheVariants.{Given, Random}
+use Rattle.gn_words.specs.declared.site.Site.{Site}
 use Rattle.gn_words.specs.declared.unread.Unread.{Unread}
 use Rattle.gn_words.specs.declared.unread.Unread.TheVariants.{Mistake, NoMemory}
 
@@ -38,10 +32,6 @@ number_asked option least most rows = do
   text ← first_of option rows
   number_between least most text
 
--- the number of workers that is asked for, where it is 1 to 64
-abbrev pub workers_of : List Row → Option ℕ
-workers_of rows = number_asked (codes "workers") 1 most_workers rows
-
 -- who a text says that a router is: one of a random ID, or the servent of this ID
 abbrev pub servent_in : Text → Option Servent
 servent_in text = if bytes_eq text (codes "random") then Some Random else option_map Given (guid_of text)
@@ -51,10 +41,6 @@ abbrev pub servent_of : List Row → Option Servent
 servent_of rows = do
   text ← first_of (codes "servent") rows
   servent_in text
-
--- a number that is asked for and that four bytes hold
-abbrev pub word_of : Text → List Row → Option ℕ
-word_of option rows = number_asked option 0 4294967295 rows
 
 -- the address that an option asks for
 abbrev pub ip_asked : Text → List Row → Option (List ℕ)
@@ -120,69 +106,17 @@ peers_in far texts = if nat_le (length texts) 64 then peers_after far [] texts e
 abbrev pub peers_of : Bool → List Row → Option (List Peer)
 peers_of far rows = peers_in far (unwrap_or (all_of (codes "peer") rows) [])
 
--- the numbers of a router's rules, where each is within its limits
-abbrev pub numbers_of : List Row → Option Numbers
-numbers_of rows = do
-  neighbours ← number_asked (codes "neighbours") 1 most.neighbours rows
-  seen ← number_asked (codes "remembered") 1 most.seen rows
-  servents ← number_asked (codes "servents") 1 most.servents rows
-  stage ← number_asked (codes "stage") 1 most.stage rows
-  out ← number_asked (codes "queue") 1 most.out rows
-  life ← number_asked (codes "life") 0 most.life rows
-  crowd ← number_asked (codes "crowd") 0 most.crowd rows
-  steps ← number_asked (codes "steps") 1 most.steps rows
-  Some (record {
-    neighbours = neighbours;
-    seen = seen;
-    servents = servents;
-    stage = stage;
-    out = out;
-    steps = steps;
-    life = life;
-    crowd = crowd;
-  })
-
--- how many packets are written to a neighbour at once at most, where it is 1 to 1,024
-abbrev pub batch_of : List Row → Option ℕ
-batch_of rows = number_asked (codes "batch") 1 1024 rows
-
 -- how many callers are asked for, 0 to 128; none, where that is any number of them
 abbrev pub accept_of : List Row → Option (Option ℕ)
 accept_of rows =
     if option_map_or (λ text. bytes_eq text (codes "any")) (first_of (codes "accept") rows) false then Some None
     else option_map Some (number_asked (codes "accept") 0 128 rows)
 
--- the seconds between two Pings of the own servent, where it is asked for any, as it is only where any number of callers is taken
-abbrev pub ping_of : Option ℕ → List Row → Option (Option ℕ)
-ping_of accept rows = do
-  seconds ← number_asked (codes "ping") 0 86400 rows
-  if seconds == 0 then Some None else if is_some accept then None else Some (Some seconds)
-
--- how many callers of one address are let in within a minute, where that is asked for, as it is only where any number of callers is taken
-abbrev pub callers_a_minute_of : Option ℕ → List Row → Option (Option ℕ)
-callers_a_minute_of accept rows = do
-  callers ← number_asked (codes "callers-a-minute") 0 60000 rows
-  if callers == 0 then Some None else if is_some accept then None else Some (Some callers)
-
--- whether no neighbour meets a threshold of its own before that of all: it has none, or one that isn't lower
-abbrev pub is_never_crowded : ℕ → ℕ → Bool
-is_never_crowded crowd stage = crowd == 0 || nat_le stage crowd
-
--- for how many seconds a neighbour may flood the router, where that is limited: it is only where each neighbour has a threshold, which is
--- crowd, below that of all, which is stage
-abbrev pub flood_of : ℕ → ℕ → List Row → Option (Option ℕ)
-flood_of crowd stage rows = do
-  seconds ← number_asked (codes "flood") 0 86400 rows
-  if seconds == 0 then Some None else if is_never_crowded crowd stage then None else Some (Some seconds)
-
--- the seconds between two Pings, how many callers a minute, for how long a flood, by a serve of so many callers, or any number, where crowd
--- is the threshold of each neighbour and stage that of all
-abbrev pub rates_of : Option ℕ → ℕ → ℕ → List Row → Option Rates
-rates_of accept crowd stage rows = do
-  ping ← ping_of accept rows
-  callers_a_minute ← callers_a_minute_of accept rows
-  flood ← flood_of crowd stage rows
-  Some (record { ping = ping; callers_a_minute = callers_a_minute; flood = flood })
+-- the limit that an option asks for: none, where its number is 0; another number is a mistake where such a limit is barred
+abbrev pub limit_asked : Text → ℕ → ℕ → Bool → List Row → Option (Option ℕ)
+limit_asked option least most are_barred rows = do
+  number ← number_asked option least most rows
+  if number == 0 then Some None else if are_barred then None else Some (Some number)
 
 -- the limit that a number of seconds says: none, where there are none
 abbrev pub limit_of : ℕ → Option ℕ
@@ -217,76 +151,6 @@ resumes_by None false (Given id) true = Some true
 -- whether the options say so
 abbrev pub resumes_of : Option ℕ → Servent → List Row → Option Bool
 resumes_of accept servent rows = resumes_by accept (is_set (codes "until-eof") rows) servent (is_set (codes "resume") rows)
-
--- the seconds of a serve's limits, where each is within its own: for a silent peer, a peer that doesn't listen, the run, its end; and whether
--- it goes on with a history
-abbrev pub times_of : Option ℕ → Servent → List Row → Option Times
-times_of accept servent rows = do
-  idle ← number_asked (codes "idle") 0 86400 rows
-  said ← retry_of rows
-  seconds ← number_asked (codes "for") 0 86400 rows
-  grace ← number_asked (codes "grace") 0 3600 rows
-  retry ← retry_with accept said
-  resumes ← resumes_of accept servent rows
-  Some (record { idle = limit_of idle; retry = retry; seconds = limit_of seconds; grace = grace; resumes = resumes })
-
--- the port where the counts of a serve are asked for, 1 to 65535 and not the one that peers call; none, where it is 0
-abbrev pub metrics_of : ℕ → List Row → Option (Option ℕ)
-metrics_of port rows = do
-  asked ← number_asked (codes "metrics") 0 65535 rows
-  if asked == port then None else Some (limit_of asked)
-
--- what the own Pongs say that the router shares, and where its counts are asked for, where each number is within its limits
-abbrev pub shared_of : ℕ → List Row → Option Shared
-shared_of port rows = do
-  files ← word_of (codes "files") rows
-  kilobytes ← word_of (codes "kilobytes") rows
-  metrics ← metrics_of port rows
-  Some (record { files = files; kilobytes = kilobytes; metrics = metrics })
-
--- what the options of a serve ask for, where each is within its limits, and peers are called for as long as it runs by one of any
--- number of callers alone
-abbrev pub serving_of : List Row → Option AskedServe
-serving_of rows = do
-  port ← number_asked (codes "port") 1 65535 rows
-  accept ← accept_of rows
-  workers ← workers_of rows
-  site ← site_of rows
-  servent ← servent_of rows
-  shared ← shared_of port rows
-  peers ← peers_of (calls_far site) rows
-  batch ← batch_of rows
-  numbers ← numbers_of rows
-  rates ← rates_of accept numbers.crowd numbers.stage rows
-  times ← times_of accept servent rows
-  Some (record {
-    port = port;
-    accept = accept;
-    workers = workers;
-    site = site;
-    servent = servent;
-    files = shared.files;
-    kilobytes = shared.kilobytes;
-    metrics = shared.metrics;
-    peers = peers;
-    idle = times.idle;
-    retry = times.retry;
-    ping = rates.ping;
-    callers_a_minute = rates.callers_a_minute;
-    flood = rates.flood;
-    batch = batch;
-    numbers = numbers;
-    seconds = times.seconds;
-    grace = times.grace;
-    early = is_set (codes "stop-early") rows;
-    until_eof = is_set (codes "until-eof") rows;
-    resumes = times.resumes;
-    keeps = is_set (codes "keep-history") rows;
-    times = is_set (codes "times") rows;
-    links = is_set (codes "links") rows;
-    report = is_set (codes "report") rows;
-    progress = is_set (codes "progress") rows;
-  })
 
 -- a value was read as the definition says; a mistake is where it says none, and memory may run out at any time. view is how the
 -- definition sees the value that was read

@@ -1,24 +1,28 @@
-//! What a command line says, without doing it: its words, its options and their help, and the request that they make.
+//! The pages of commands, and what the values of their options say.
 #![tactic(auto)]
 
-mod audit;
 mod callers;
-mod config;
-mod help;
-mod load;
+mod flags;
 mod numbers;
+mod page;
 mod peers;
-mod replay;
-mod request;
 mod resuming;
 mod retrying;
 mod rows;
-mod serve;
-mod show;
+mod said;
+mod servent;
 mod site;
 mod unread;
-mod words;
 
-pub use config::config_text;
-pub use request::{Peer, Request, Retry, ServeOptions, Servent, Site};
-pub use words::{plain_words_are_read, read_words};
+pub use callers::accept_of;
+pub use flags::is_set;
+pub use numbers::{NumberOption, asked, limit_asked};
+pub use page::{Group, Page, command_of};
+pub use peers::{Peer, peers_of};
+pub use resuming::resumes_of;
+pub use retrying::{Retry, retry_of, retry_with};
+pub use rows::{OptionRow, Takes};
+pub use said::{Said, push_rows};
+pub use servent::{Servent, servent_of};
+pub use site::{Site, site_of};
+pub use unread::Unread;

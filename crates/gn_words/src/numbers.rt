@@ -2,42 +2,24 @@
 
 ghost use Rattle.std.specs.Prelude.{◌≡◌, ◌&&◌, nat_le, option_and_then};
 ghost use Rattle.clap.specs.Words.{found_of, rows_of};
-ghost use Rattle.gn_words.specs.Options.{IsReadAs, number_asked, number_between};
+ghost use Rattle.gn_words.specs.Options.{IsReadAs, limit_asked, number_asked, number_between};
 
-use crate::rows::{OptionRow, Takes};
 use crate::unread::Unread;
 use clap::ArgMatches;
-use gn_rules::MOST_WORKERS;
 use gn_text::number;
 
 /// An option that takes a number.
 #[derive(Clone, Copy, Debug)]
-pub(crate) struct NumberOption {
+pub struct NumberOption {
     /// The option's name.
-    pub(crate) name: &'static str,
+    pub name: &'static str,
     /// The least that it takes.
-    pub(crate) least: u32,
+    pub least: u32,
     /// The most that it takes.
-    pub(crate) most: u32,
+    pub most: u32,
     /// What is said of any other value.
-    pub(crate) mistake: &'static str,
+    pub mistake: &'static str,
 }
-
-/// What `--workers` takes.
-pub(crate) const WORKERS: NumberOption = NumberOption {
-    name: "workers",
-    least: 1,
-    most: MOST_WORKERS,
-    mistake: "--workers takes a number of 1 to 64",
-};
-
-/// The option `--workers` of a load and of a serve.
-pub(crate) const WORKERS_ROW: OptionRow = OptionRow {
-    name: "workers",
-    letter: Some('w'),
-    takes: Takes::Value("V"),
-    help: "How many threads route what was admitted, 1 to 64",
-};
 
 /// Whether a number is from one to another.
 fn is_between(number: u32, least: u32, most: u32) -> bool
@@ -66,7 +48,7 @@ fn number_asked(options: &ArgMatches<'_>, option: &str, least: u32, most: u32) -
 }
 
 /// The number that an option asks for; a mistake, where it isn't within its limits.
-pub(crate) fn asked(options: &ArgMatches<'_>, number: &NumberOption) -> Result<u32, Unread>
+pub fn asked(options: &ArgMatches<'_>, number: &NumberOption) -> Result<u32, Unread>
     ensures { IsReadAs (λ n. n)
         (number_asked number.now.name.now number.now.least number.now.most (rows_of (found_of options.now))) result }
 {
@@ -74,4 +56,25 @@ pub(crate) fn asked(options: &ArgMatches<'_>, number: &NumberOption) -> Result<u
         Some(asked) => Ok(asked),
         None => Err(Unread::Mistake(number.mistake)),
     }
+}
+
+/// The limit that an option asks for; `None`: none, as where its number is 0. A mistake, where another can't be read, or limits of its kind
+/// are barred, which this text says.
+pub fn limit_asked(
+    options: &ArgMatches<'_>,
+    number: &NumberOption,
+    are_barred: bool,
+    barred: &'static str,
+) -> Result<Option<u32>, Unread>
+    ensures { IsReadAs (λ limit. limit) (limit_asked number.now.name.now number.now.least number.now.most are_barred
+        (rows_of (found_of options.now))) result }
+{
+    let limit = asked(options, number)?;
+    if limit == 0 {
+        return Ok(None);
+    }
+    if are_barred {
+        return Err(Unread::Mistake(barred));
+    }
+    Ok(Some(limit))
 }

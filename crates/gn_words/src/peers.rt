@@ -5,11 +5,19 @@ ghost use Rattle.std.specs.List.{slice_split};
 ghost use Rattle.clap.specs.Words.{found_of, rows_of};
 ghost use Rattle.gn_words.specs.Options.{IsReadAs, is_near, peer_at, peer_of, peer_of_parts, peers_after, peers_in, peers_of};
 
-use crate::request::{Peer, is_near};
+use crate::site::is_near;
 use crate::unread::Unread;
 use clap::ArgMatches;
 use gn_text::{ip, number_u16};
 use std::alloc::{AllocError, Global};
+
+/// A peer that is called.
+#[derive(Clone, Copy, Debug, PartialEq, Eq)]
+pub struct Peer {
+    /// The first byte is the first that is written between dots. It is 127, unless the router calls peers on other machines.
+    pub ip: [u8; 4],
+    pub port: u16,
+}
 
 /// The most peers that are called.
 const MOST_PEERS: usize = 64;
@@ -98,11 +106,7 @@ fn peers_in(alloc: Global, far: bool, texts: &[&str]) -> Result<Vec<Peer>, Unrea
 }
 
 /// The peers that `--peer` asks for, at most 64; on other machines, where these may be called.
-pub(crate) fn peers_of(
-    alloc: Global,
-    far: bool,
-    options: &ArgMatches<'_>,
-) -> Result<Vec<Peer>, Unread>
+pub fn peers_of(alloc: Global, far: bool, options: &ArgMatches<'_>) -> Result<Vec<Peer>, Unread>
     ensures read { IsReadAs (λ v. v.items) (peers_of far (rows_of (found_of options.now))) result }
     ensures few { IfOk result (λ peers. length peers.items ≤ 64) }
 {

@@ -1,12 +1,11 @@
 //! Whether a serve goes on with a history of before.
 
-ghost use Rattle.std.specs.Prelude.{codes};
 ghost use Rattle.clap.specs.Words.{found_of, rows_of};
 ghost use Rattle.gn_words.specs.Options.{IsReadAs, resumes_by, resumes_of};
 
-use crate::request::Servent;
+use crate::flags::is_set;
+use crate::servent::Servent;
 use crate::unread::Unread;
-use crate::words::is_set;
 use clap::ArgMatches;
 
 /// Whether it does, where it may: with any number of callers, by the same servent each time, and with a standard input that ends nothing.
@@ -30,7 +29,7 @@ fn resumes_by(
 }
 
 /// Whether `--resume` asks for that, of a serve of so many callers, or any number, and of this servent.
-pub(crate) fn resumes_of(
+pub fn resumes_of(
     options: &ArgMatches<'_>,
     accept: Option<u32>,
     servent: Servent,

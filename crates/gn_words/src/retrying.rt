@@ -1,6 +1,6 @@
 //! For how long a serve calls a peer again.
 
-ghost use Rattle.std.specs.Prelude.{◌≡◌, IfOk, codes, decimal, false};
+ghost use Rattle.std.specs.Prelude.{◌≡◌, IfOk, codes, false};
 ghost use Rattle.std.specs.Option.{option_map_or};
 ghost use Rattle.std.specs.Str.{bytes_eq};
 ghost use Rattle.clap.specs.Words.{found_of, rows_of};
@@ -8,14 +8,24 @@ ghost use Rattle.gn_words.specs.ConfigTexts.{retry_text};
 ghost use Rattle.gn_words.specs.Options.{IsReadAs, retry_for, retry_of, retry_with};
 
 use crate::numbers::{NumberOption, asked};
-use crate::request::Retry;
 use crate::unread::Unread;
 use clap::ArgMatches;
 use gn_text::push_number;
 use std::alloc::{AllocError, Global};
 
+/// For how long a peer that can't be called is called again.
+#[derive(Clone, Copy, Debug, PartialEq, Eq)]
+pub enum Retry {
+    /// It is called once.
+    Never,
+    /// For so many seconds.
+    For(u32),
+    /// For as long as the router runs, and again once it has gone.
+    Always,
+}
+
 /// What `--retry` takes beside `always`: at most a day.
-const RETRY: NumberOption = NumberOption {
+const SECONDS: NumberOption = NumberOption {
     name: "retry",
     least: 0,
     most: 86_400,
@@ -44,20 +54,20 @@ fn retry_for(seconds: u32) -> Retry
 }
 
 /// For how long `--retry` asks that a peer is called again.
-pub(crate) fn retry_of(options: &ArgMatches<'_>) -> Result<Retry, Unread>
+pub fn retry_of(options: &ArgMatches<'_>) -> Result<Retry, Unread>
     ensures { IsReadAs (λ retry. retry) (retry_of (rows_of (found_of options.now))) result }
 {
     if is_always(options.get_str("retry")) {
         return Ok(Retry::Always);
     }
-    match asked(options, &RETRY) {
+    match asked(options, &SECONDS) {
         Ok(seconds) => Ok(retry_for(seconds)),
         Err(unread) => Err(unread),
     }
 }
 
 /// The same, by a serve of so many callers, or any number: only that calls its peers for as long as it runs.
-pub(crate) fn retry_with(accept: Option<u32>, retry: Retry) -> Result<Retry, Unread>
+pub fn retry_with(accept: Option<u32>, retry: Retry) -> Result<Retry, Unread>
     ensures { IsReadAs (λ retry. retry) (retry_with accept retry) result }
 {
     match (accept, retry) {

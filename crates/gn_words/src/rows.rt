@@ -10,7 +10,7 @@ use std::alloc::{AllocError, Global};
 
 /// What stands behind an option, under the name that help gives it.
 #[derive(Clone, Copy, Debug)]
-pub(crate) enum Takes {
+pub enum Takes {
     /// Nothing: it is a flag.
     Nothing,
     /// A value, and the option has to be given.
@@ -25,15 +25,15 @@ pub(crate) enum Takes {
 
 /// An option of a command.
 #[derive(Clone, Copy, Debug)]
-pub(crate) struct OptionRow {
+pub struct OptionRow {
     /// Its name, behind two hyphens.
-    pub(crate) name: &'static str,
+    pub name: &'static str,
     /// The letter that stands for it behind one hyphen.
-    pub(crate) letter: Option<char>,
+    pub letter: Option<char>,
     /// What stands behind it.
-    pub(crate) takes: Takes,
+    pub takes: Takes,
     /// What help says of it.
-    pub(crate) help: &'static str,
+    pub help: &'static str,
 }
 
 /// The same argument, with what stands behind it.

@@ -1,15 +1,40 @@
 //! Where a serve listens, and at which address its own Pongs say that it is.
 
-ghost use Rattle.std.specs.Prelude.{◌≡◌, IfOk, codes, option_and_then};
+ghost use Rattle.std.specs.Prelude.{◌≡◌, IfOk, option_and_then};
 ghost use Rattle.clap.specs.Words.{found_of, rows_of};
 ghost use Rattle.gn_text.specs.Addresses.{ip_of, ip_text};
-ghost use Rattle.gn_words.specs.Options.{IsReadAs, ip_asked, is_all, site_at, site_of};
+ghost use Rattle.gn_words.specs.Options.{IsReadAs, calls_far, ip_asked, is_all, is_near, site_at, site_of};
 
-use crate::request::Site;
 use crate::unread::Unread;
 use clap::ArgMatches;
 use gn_text::{ip, push_ip};
 use std::alloc::{AllocError, Global};
+
+/// Where a router is.
+#[derive(Clone, Copy, Debug, PartialEq, Eq)]
+pub struct Site {
+    /// The address at which it listens; 0.0.0.0: all those of its machine.
+    pub bind: [u8; 4],
+    /// The address at which its own Pongs say that it is.
+    pub address: [u8; 4],
+}
+
+impl Site {
+    /// Whether it calls peers on other machines, too: where it listens at an address at which these can call it, which doesn't begin
+    /// with 127.
+    pub fn calls_far(&self) -> bool
+        ensures { result ≡ calls_far self.now }
+    {
+        !is_near(self.bind)
+    }
+}
+
+/// Whether an address is one of this machine that no other machine can call: 127 and three bytes more.
+pub(crate) fn is_near(ip: [u8; 4]) -> bool
+    ensures { result ≡ is_near ip }
+{
+    ip[0] == 127
+}
 
 /// An option that takes an address.
 #[derive(Clone, Copy, Debug)]
@@ -82,7 +107,7 @@ fn site_at(bind: [u8; 4], asked: [u8; 4]) -> Result<Site, Unread>
 }
 
 /// Where the router is that `--bind` and `--address` ask for.
-pub(crate) fn site_of(alloc: Global, options: &ArgMatches<'_>) -> Result<Site, Unread>
+pub fn site_of(alloc: Global, options: &ArgMatches<'_>) -> Result<Site, Unread>
     ensures { IsReadAs (λ site. site) (site_of (rows_of (found_of options.now))) result }
 {
     let bind = asked_ip(alloc, options, &BIND)?;

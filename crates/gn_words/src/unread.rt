@@ -7,7 +7,7 @@ use std::alloc::{AllocError, AllocFailed};
 
 /// Why options stand for no request.
 #[derive(Clone, Copy, Debug)]
-pub(crate) enum Unread {
+pub enum Unread {
     /// A value isn't within its limits: what the option takes, in words.
     Mistake(&'static str),
     /// Out of memory.

@@ -10,4 +10,3 @@ pub use Rattle.gn_capture.specs.Replies
 pub use Rattle.gn_capture.specs.Requests
 pub use Rattle.gn_capture.specs.RoundTrip
 pub use Rattle.gn_capture.specs.Steps
-pub use Rattle.gn_capture.specs.Words

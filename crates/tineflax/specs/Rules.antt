@@ -10,6 +10,7 @@ pub use Rattle.gn_rules.specs.Laws
 pub use Rattle.gn_rules.specs.Legality
 pub use Rattle.gn_rules.specs.Limits
 pub use Rattle.gn_rules.specs.Output
+pub use Rattle.gn_rules.specs.Plain
 pub use Rattle.gn_rules.specs.Runs
 pub use Rattle.gn_rules.specs.SeenEntries
 pub use Rattle.gn_rules.specs.Sending

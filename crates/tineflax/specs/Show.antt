@@ -4,4 +4,3 @@ pub use Rattle.gn_show.specs.Plain
 pub use Rattle.gn_show.specs.Shown
 pub use Rattle.gn_show.specs.Times
 pub use Rattle.gn_show.specs.Values
-pub use Rattle.gn_show.specs.Words

@@ -36,7 +36,7 @@ pub use Rattle.gn_start.specs.declared.fault.RunFault
 pub use Rattle.gn_load.specs.declared.serve_fault.ServeFault
 pub use Rattle.gn_text.specs.declared.fault.CaptureFault
 pub use Rattle.gn_text.specs.declared.fault.CaptureRefusal
-pub use Rattle.gn_text.specs.declared.fault.Cause
+pub use Rattle.gn_numbers.specs.declared.causes.Cause
 pub use Rattle.gn_replay.specs.declared.fault.ReplayFault
 pub use Rattle.gn_load.specs.declared.fault.LoadFault
 pub use Rattle.gn_show.specs.declared.form.Form

@@ -8,7 +8,7 @@ use gn_hub::Batch;
 use gn_links::{MemoryLink, MemoryReader, MemoryWriter, NoGate};
 use gn_report::Account;
 use gn_room::{Following, Room};
-use gn_rules::{Config, FreshRouter, RouterCore, Stats};
+use gn_rules::{Config, Counter, FreshRouter, RouterCore, Stats};
 use gn_run_fixtures::pings;
 use gn_shake::Role;
 use gn_table_router::TableRouter;
@@ -87,8 +87,9 @@ fn counted(account: &Done) -> Counts {
 
 /// The same by the counters.
 fn counted_by(stats: &Stats) -> Counts {
-    let offered = u64::from(stats.admitted).saturating_add(u64::from(stats.busy));
-    (offered, u64::from(stats.busy), u64::from(stats.taken))
+    let busy = u64::from(stats.get(Counter::Busy));
+    let offered = u64::from(stats.get(Counter::Admitted)).saturating_add(busy);
+    (offered, busy, u64::from(stats.get(Counter::Taken)))
 }
 
 /// What the tallies and the counters say of a run of this router over four links.

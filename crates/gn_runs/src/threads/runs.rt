@@ -4,7 +4,7 @@ use gn_bodies::WriterEnd;
 use gn_fixtures::OWN;
 use gn_links::{Gate, Link, MemoryLink, NoGate};
 use gn_report::Report;
-use gn_rules::Config;
+use gn_rules::{Config, Counter};
 use gn_run_fixtures::{Meeting, PacedLink, a_report, are_even, have_met, pings};
 use gn_shake::Role;
 use gn_table_router::TableRouter;
@@ -174,7 +174,7 @@ fn read_in_step<R: Threads + Wait + Sync + Abort>(rt: &R, alloc: Global) -> Resu
     let meeting = Meeting::new();
     let links = paced_links(alloc, 10, &meeting, Some(&meeting))?;
     let report = a_report(table_run(rt, alloc, links, 1, &NoGate))?;
-    let routed = report.stats.routed;
+    let routed = report.stats.get(Counter::Routed);
     drop(report);
     assert!(rt; routed == 20 && have_met(&meeting, 231));
     Ok(())

@@ -4,6 +4,7 @@ use crate::threads::runs::table_run;
 use gn_bodies::{ReaderEnd, WriterEnd};
 use gn_links::{Gate, Made, MemoryLink, Place};
 use gn_report::Report;
+use gn_rules::Counter;
 use gn_run_fixtures::a_report;
 use gn_shake::{Role, request};
 use gn_wire::{FrameFault, Kind};
@@ -65,7 +66,7 @@ fn ended_so<Rd, W>(report: &Report<Rd, W>) -> bool {
         }
         None => false,
     };
-    ended && report.stats.closed == 1
+    ended && report.stats.get(Counter::Closed) == 1
 }
 
 /// Whether the broken link ends so, and the gate is told of one close.

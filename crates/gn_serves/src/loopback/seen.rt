@@ -3,7 +3,7 @@
 use super::TcpReport;
 use gn_bodies::{ReaderEnd, WriterEnd};
 use gn_report::LinkReport;
-use gn_rules::{Event, Stats, Step};
+use gn_rules::{Counter, Event, Stats, Step};
 use gn_tcp::{TcpReader, TcpWriter};
 use std::net::SocketAddr;
 
@@ -89,12 +89,12 @@ fn events_of(history: &[Step]) -> Events {
 /// What statistics count.
 fn counts_of(stats: &Stats) -> [u32; 6] {
     [
-        stats.connected,
-        stats.admitted,
-        stats.routed,
-        stats.duplicate,
-        stats.taken,
-        stats.closed,
+        stats.get(Counter::Connected),
+        stats.get(Counter::Admitted),
+        stats.get(Counter::Routed),
+        stats.get(Counter::Duplicate),
+        stats.get(Counter::Taken),
+        stats.get(Counter::Closed),
     ]
 }
 

@@ -1,6 +1,6 @@
 use Rattle.std.proofs.Common.{codes}
 use Rattle.gn_text.proofs.KeptLemmas.{kept_before, on_error, whole_text}
-use Rattle.gn_text.specs.declared.title.Text.TheVariants.{History}
+use Rattle.gn_numbers.specs.declared.titles.Text.TheVariants.{History}
 use Rattle.gn_text.specs.Header.{header_text}
 use Rattle.gn_capture.specs.Histories.{steps_text}
 use Rattle.gn_capture.proofs.HistoryLemmas.{part_of_text}

@@ -1,7 +1,7 @@
 use Rattle.std.proofs.Common.{ap, false, is_some, sym, subst, ◌∙◌, Global}
 use Rattle.gn_io.specs.Streams.{SinkState}
 use Rattle.gn_load.specs.Any.{IsJournalledTaken}
-use Rattle.gn_program.specs.Commands.{IsBeside, has_comments}
+use Rattle.gn_program.specs.Serves.{IsBeside, has_comments}
 use Rattle.gn_program.proofs.ServeLemmas.{is_beside}
 use Rattle.gn_program.proofs.serves.run.Goals as goal
 

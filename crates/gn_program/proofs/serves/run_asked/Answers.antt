@@ -1,6 +1,6 @@
 use Rattle.std.proofs.Common.{is_some, sym, ◌∙◌, Global}
 use Rattle.gn_load.specs.Any.{IsJournalledTaken}
-use Rattle.gn_program.specs.Commands.{has_comments}
+use Rattle.gn_program.specs.Serves.{has_comments}
 use Rattle.gn_program.specs.Limits.{goes_on}
 use Rattle.gn_program.proofs.ServeLemmas.{goes_on_any, went_anew, went_on}
 use Rattle.gn_program.proofs.serves.run_asked.Goals as goal

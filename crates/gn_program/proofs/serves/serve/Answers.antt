@@ -4,7 +4,7 @@ use Rattle.gn_program.specs.Limits.{goes_on}
 use Rattle.gn_program.specs.Peers.{AreAt}
 use Rattle.gn_rules.specs.Limits.{IsCrew}
 use Rattle.gn_start.specs.declared.fault.RunFault.TheVariants.{Listen, NoMemory}
-use Rattle.gn_words.specs.ServeOptions.{AskedServe}
+use Rattle.gn_program.specs.Serve.{AskedServe}
 use Rattle.gn_program.proofs.ServeLemmas.{answered, asked, failed, unserved, written_itself}
 use Rattle.gn_program.proofs.serves.serve.Goals as goal
 

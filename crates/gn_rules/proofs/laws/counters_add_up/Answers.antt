@@ -1,4 +1,4 @@
-use Rattle.gn_rules.proofs.OutputLemmas.{counters_add_up}
+use Rattle.gn_rules.proofs.CounterLemmas.{counters_add_up}
 use Rattle.gn_rules.proofs.laws.counters_add_up.Goals as goal
 
 pub returns : goal.returns

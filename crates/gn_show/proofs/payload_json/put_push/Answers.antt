@@ -1,7 +1,6 @@
 use Rattle.std.proofs.Common.{append_assoc}
-use Rattle.gn_show.proofs.ShowLemmas.{ok_so}
 use Rattle.gn_show.proofs.payload_json.put_push.Goals as goal
 
 pub returns : goal.returns
 returns c =
-    ok_so c.end_object.result (λ written bytes is. simp append_assoc (simp (append_assoc, c.in_ok-put_hex.ensures, c.in_ok-put_number-2.ensures, c.in_ok-put_ip.ensures, c.in_ok-put_number.ensures, c.in_ok-begin_object.ensures, c.from.ensures, is.file, is.ip, is.port, is.servent) at written)) c.end_object.ensures
+    simp append_assoc (simp (append_assoc, c.in_ok-put_hex.ensures, c.in_ok-put_number-2.ensures, c.in_ok-put_ip.ensures, c.in_ok-put_number.ensures, c.in_ok-begin_object.ensures, c.from.ensures) at c.end_object.ensures)

@@ -1,6 +1,7 @@
 use Rattle.std.proofs.Common.{◌≡◌, ◌++◌, ◌∙◌, ◌∷◌, [], ℕ, List, ap, refl, subst}
 use Rattle.std.specs.Prelude.{OnOk}
 use Rattle.csv.specs.Writing.{default_writer, row_text}
+use Rattle.gn_numbers.specs.Names.{counter_name}
 use Rattle.gn_show.specs.Rows.{queued_field}
 use Rattle.gn_show.proofs.RowLemmas.{both_same}
 use Rattle.gn_show.proofs.rows.push_row.Goals as goal
@@ -11,8 +12,8 @@ returns c =
     (both_same (c.as_slice.ensures.value ∙ c.in_ok-index.ensures)
     (both_same (c.as_slice-2.ensures.value ∙ c.in_ok-time.ensures)
     (both_same (c.as_slice-3.ensures.value ∙ c.in_ok-actor.ensures)
-    (both_same (c.as_bytes.ensures.value ∙ c.event_word.ensures)
-    (both_same (c.as_bytes-2.ensures.value ∙ c.reply_word.ensures)
+    (both_same (c.as_bytes.ensures.value ∙ c.event_name.ensures)
+    (both_same (c.as_bytes-2.ensures.value ∙ c.counter_name.ensures ∙ ap counter_name c.of.ensures)
     (both_same (c.as_slice-4.ensures.value ∙ c.in_ok-from.ensures)
     (both_same (c.as_slice-5.ensures.value ∙ c.in_ok-to.ensures)
     (both_same c.as_slice-6.ensures.value

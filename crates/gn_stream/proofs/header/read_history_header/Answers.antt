@@ -1,7 +1,7 @@
 use Rattle.std.proofs.Common.{◌∙◌, ap, refl, sym}
 use Rattle.gn_text.specs.Header.{config_from, header_of}
-use Rattle.gn_text.specs.Titles.{version_of}
-use Rattle.gn_text.specs.declared.title.Text.TheVariants.{History}
+use Rattle.gn_numbers.specs.Names.{version_of}
+use Rattle.gn_numbers.specs.declared.titles.Text.TheVariants.{History}
 use Rattle.gn_stream.specs.Reading.{place}
 use Rattle.gn_stream.proofs.HeaderLemmas.{said_then}
 use Rattle.gn_stream.proofs.header.read_history_header.Goals as goal

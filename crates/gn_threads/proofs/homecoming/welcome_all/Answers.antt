@@ -3,7 +3,8 @@ use Rattle.std.proofs.lemmas.List.{nil_from_length}
 use Rattle.std.specs.Vec.Iter.{into_iter_items}
 use Rattle.gn_report.specs.Accounts.{unkept_list}
 use Rattle.gn_threads.specs.Homecoming.{AreAllOut, receipts_in, with_all_home}
-use Rattle.gn_threads.proofs.LoopLemmas.{all_started, none_taken, one_as, one_started}
+use Rattle.gn_report.proofs.ToldLemmas.{all_moved}
+use Rattle.gn_threads.proofs.LoopLemmas.{none_taken, one_as, one_started}
 use Rattle.gn_threads.proofs.homecoming.welcome_all.Goals as goal
 
 pub loop-worker-init : goal.loop-worker-init
@@ -53,4 +54,4 @@ returns-clause-lists g c =
 
 pub returns-clause-receipts : goal.returns-clause-receipts
 returns-clause-receipts g c =
-    all_started unkept_list receipts_in (vec_items c.loop-worker.made) (into_iter_items c.loop-worker.worker-iterator) _ (omega (arith, c.loop-worker.worker-iterator.rest.ok, c.in-None.ensures.steps.0)) c.loop-worker.invariant.receipts
+    all_moved unkept_list receipts_in (vec_items c.loop-worker.made) (into_iter_items c.loop-worker.worker-iterator) _ (omega (arith, c.loop-worker.worker-iterator.rest.ok, c.in-None.ensures.steps.0)) c.loop-worker.invariant.receipts

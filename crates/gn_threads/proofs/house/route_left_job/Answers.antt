@@ -1,11 +1,12 @@
 use Rattle.std.proofs.Common.{ap, refl}
 use Rattle.gn_bodies.specs.Events.{link_events}
 use Rattle.gn_hub.specs.ActorState.{ActorState}
-use Rattle.gn_threads.proofs.HouseLemmas.{no_event_more, one_event_more}
+use Rattle.gn_bodies.proofs.EventLemmas.{events-receipt}
+use Rattle.gn_threads.proofs.HouseLemmas.{no_event_more}
 use Rattle.gn_threads.proofs.house.route_left_job.Goals as goal
 
 pub returns-in-Ok-clause-routed : goal.returns-in-Ok-clause-routed
-returns-in-Ok-clause-routed g c = rw (← c.job.view_is) (one_event_more c.args.me.now c.route-answer.new.me _ c.in-Ok.ensures.answer.3)
+returns-in-Ok-clause-routed g c = rw (← c.job.view_is) (events-receipt c.args.me.now c.route-answer.new.me _ c.in-Ok.ensures.answer.3)
 
 pub returns-in-Ok-clause-alone : goal.returns-in-Ok-clause-alone
 returns-in-Ok-clause-alone g c =

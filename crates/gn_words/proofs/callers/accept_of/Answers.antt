@@ -1,6 +1,6 @@
-use Rattle.std.proofs.Common.{◌≡◌, ◌∙◌, None, Some, codes, false, sym, true}
+use Rattle.std.proofs.Common.{◌∙◌, Some, codes, sym}
 use Rattle.clap.specs.Words.{found_of, rows_of}
-use Rattle.gn_words.proofs.OptionLemmas.{any_asked, is_any, many_asked, unread_too}
+use Rattle.gn_words.proofs.OptionLemmas.{any_asked, many_asked, unread_too}
 use Rattle.gn_words.proofs.WordLemmas.{word_read}
 use Rattle.gn_words.proofs.callers.accept_of.Goals as goal
 

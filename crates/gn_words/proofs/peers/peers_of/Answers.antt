@@ -1,7 +1,7 @@
 use Rattle.std.proofs.Common.{◌∙◌, sym, ap, subst, List, [], Option, Some, Bor, map}
 use Rattle.std.specs.Prelude.{option_map, unwrap_or}
 use Rattle.clap.specs.Words.{Text, found_of}
-use Rattle.gn_words.specs.declared.request.Peer.{Peer}
+use Rattle.gn_words.specs.declared.peers.Peer.{Peer}
 use Rattle.gn_words.specs.Options.{IsReadAs, peers_in}
 use Rattle.gn_words.proofs.WordLemmas.{peers_read}
 use Rattle.gn_words.proofs.peers.peers_of.Goals as goal

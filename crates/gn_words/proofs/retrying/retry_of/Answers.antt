@@ -1,6 +1,6 @@
-use Rattle.std.proofs.Common.{◌≡◌, ◌∙◌, None, Some, ap, codes, false, sym, true}
+use Rattle.std.proofs.Common.{◌∙◌, Some, ap, codes, sym}
 use Rattle.clap.specs.Words.{found_of, rows_of}
-use Rattle.gn_words.proofs.OptionLemmas.{always_asked, is_always, seconds_asked, unread_retry}
+use Rattle.gn_words.proofs.OptionLemmas.{always_asked, seconds_asked, unread_retry}
 use Rattle.gn_words.proofs.WordLemmas.{word_read}
 use Rattle.gn_words.proofs.retrying.retry_of.Goals as goal
 

@@ -1,7 +1,7 @@
 use Rattle.std.proofs.Common.{None, ap, is_some, subst, sym, true, Global}
 use Rattle.gn_io.specs.Streams.{SinkState}
 use Rattle.gn_load.specs.Any.{IsJournalledTaken}
-use Rattle.gn_program.specs.Commands.{IsRestBeside}
+use Rattle.gn_program.specs.Serves.{IsRestBeside}
 use Rattle.gn_program.proofs.resumes.Resuming.run.Goals as goal
 
 pub returns : goal.returns

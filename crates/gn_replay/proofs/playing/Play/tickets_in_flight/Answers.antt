@@ -1,7 +1,8 @@
 use Rattle.std.proofs.Common.{◌≡◌, ◌-◌, ◌∙◌, ap, arith, length, reverse, subst}
 use Rattle.gn_rules.specs.Answer.{IsLegal}
 use Rattle.gn_rules.specs.Flight.{flying}
-use Rattle.gn_rules.specs.declared.statistics.Stats.{Stats}
+use Rattle.gn_rules.specs.declared.statistics.Counter.TheVariants.{Admitted}
+use Rattle.gn_rules.specs.Statistics.{count_in}
 use Rattle.gn_replay.specs.Playing.{Playing}
 use Rattle.gn_replay.proofs.RouteLemmas.{admitted_counted, finding_all, finding_more, finding_none, finding_start}
 use Rattle.gn_replay.proofs.playing.Play.tickets_in_flight.Goals as goal
@@ -11,7 +12,7 @@ pub loop-next-init : goal.loop-next-init
 loop-next-init g c =
     let past = reverse (g.C.RouterCore.steps c.self.inside.core) in
     rw (← c.self.view_is)
-    (finding_start (g.C.RouterCore.settings c.self.inside.core) past _ _ c.is_legal.ensures (ap (λ (n : Stats). n.admitted) c.stats-next.ensures ∙ admitted_counted past) c.new-tickets.ensures.items)
+    (finding_start (g.C.RouterCore.settings c.self.inside.core) past _ _ c.is_legal.ensures (c.get-next.ensures ∙ ap (count_in Admitted) c.stats.ensures ∙ admitted_counted past) c.new-tickets.ensures.items)
 
 pub loop-next-preserved : goal.loop-next-preserved
 loop-next-preserved g c =

@@ -1,8 +1,0 @@
-use Rattle.std.proofs.Common.{◌≡◌, ◌++◌, drop, map}
-use Rattle.gn_words.specs.ConfigTexts.{flags_lines}
-use Rattle.gn_words.proofs.config.push_flags.Given as goal
-
-abbrev pub invariant-loop-row : goal.invariant-loop-row
-invariant-loop-row l =
-    l.out.items ++ flags_lines (map (λ row. (row.0.now, row.1)) (drop l.row-index l.rows))
-    ≡ l.fn.out.items ++ flags_lines (map (λ row. (row.0.now, row.1)) l.rows)
