@@ -3,10 +3,11 @@
 use crate::doorstep::{Doorstep, Guest};
 use crate::entrance::Entrance;
 use crate::rate::Rate;
-use crate::registering::stopper_of;
+use crate::registering::{stopper_of, threads_come};
 use std::alloc::{Allocator, Global};
 use std::net::{Net, TcpListener, TcpStream};
 use std::sync::Wait;
+use std::thread::Threads;
 use std::time::Clock;
 
 /// Who accepts callers, one at a time, as the run wants one.
@@ -18,13 +19,13 @@ pub(crate) struct Accepter<'a, N, A: Allocator = Global> {
     pub callers_a_minute: Option<u32>,
 }
 
-impl<'a, N: Wait + Net<Listener = TcpListener, Stream = TcpStream> + Clock, A: Allocator> Accepter<
+impl<
     'a,
-    N,
-    A,
-> {
-    /// Waits for a caller, and puts it on the doorstep once it has all handles that it needs. Where the run is stopped meanwhile, or too
-    /// many of its address have come, it is let go.
+    N: Threads + Wait + Net<Listener = TcpListener, Stream = TcpStream> + Clock,
+    A: Allocator,
+> Accepter<'a, N, A> {
+    /// Waits for a caller, and puts it on the doorstep once it has all handles that it needs, and the system gives its link's threads.
+    /// Where the run is stopped meanwhile, or too many of its address have come, it is let go.
     fn accept(&self, rate: &mut Rate) {
         let (net, stops) = (self.entrance.net, self.entrance.stops);
         let Ok(mut found) = self.entrance.accept() else {
@@ -38,7 +39,11 @@ impl<'a, N: Wait + Net<Listener = TcpListener, Stream = TcpStream> + Clock, A: A
             self.doorstep.want();
             return;
         }
-        if let Some(stopper) = stopper_of(net, stops, &mut found) {
+        let Some(stopper) = stopper_of(net, stops, &mut found) else {
+            return;
+        };
+        // a run ends where it is refused one of them
+        if threads_come(net, stops) {
             self.doorstep.put(net, Guest::new(found, stopper));
         }
     }

@@ -18,7 +18,7 @@ use crate::parting::{Parting, Told};
 use crate::past::{NoPast, Past, Recalling};
 use crate::pings::{Pinging, Reminder};
 use crate::ran::Ran;
-use crate::running::watch_and_call;
+use crate::running::{run_watched, watch_and_call};
 use crate::serving::{Any, Serve};
 use crate::stop::Stop;
 use crate::stops::Stops;
@@ -29,7 +29,6 @@ use gn_rules::{MOST_LINKS, RouterCore};
 use gn_tcp::{TcpReader, TcpWriter};
 use gn_threads::{Asked, Course, Entering, Halted, OpenAccount, Routing, run_open};
 use std::alloc::{Allocator, Global};
-use std::thread;
 
 /// Places for callers that are greeted, or told that there are too many, beside those of the neighbours.
 const MORE: u32 = 16;
@@ -119,17 +118,17 @@ where
             callers_a_minute: self.serve.accept.callers_a_minute,
         };
         let accepter = &accepter;
-        let ((), answer) = thread::join(
+        run_watched(
             rt,
             || watch_and_call(rt, serving, stops, watch, Some(accepter), Some(reminder)),
+            || stops.lack_memory(),
             move ||
                 ensures served { let s = self.entry.serve.now in
                     IsServedAfter (P.recalls self.entry.past) s.accept.again (is_some s.accept.pings) s.batch
                     s.config.now s.peers.now s.workers open_account result.0 }
                 ensures rest { IsLeft (W.follows self.entry.routing.course) W.leaves result.1 (AreOpenStepsOf result.0) }
             { self.run(stops, doorstep, reminder, signal) },
-        );
-        answer
+        )
     }
 
     /// Runs the router, until `stops` ends it where it is stopped. Where one of its calls fails the run has failed, whatever it answers.

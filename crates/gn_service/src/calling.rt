@@ -7,7 +7,7 @@ use crate::accepting::Accepter;
 use crate::asked::Asked;
 use crate::floods::{Flood, SLOTS};
 use crate::pings::Reminder;
-use crate::registering::{pause, registered};
+use crate::registering::{moment, pause, registered};
 use crate::serving::Serving;
 use crate::stop::earlier;
 use crate::stops::Stops;
@@ -17,7 +17,7 @@ use gn_tcp::{TcpCall, TcpLink, Unmet};
 use std::alloc::{Allocator, Global};
 use std::net::{Net, SocketAddr, TcpListener, TcpStream};
 use std::sync::Wait;
-use std::thread::Scope;
+use std::thread::{Scope, Threads};
 use std::time::{Clock, Duration, Instant};
 
 /// Seconds for which a call waits for its answer.
@@ -198,31 +198,48 @@ impl<
     'a,
     's: 'a,
     E: 'a,
-    N: Wait + Net<Listener = TcpListener, Stream = TcpStream> + Clock + Sync + 'a,
+    N: Threads + Wait + Net<Listener = TcpListener, Stream = TcpStream> + Clock + Sync + 'a,
     G: Watch + Sync + 'a,
     A: Allocator + Send + Sync + 'a,
 > Callers<'a, 's, E, N, G, A> {
-    /// Starts a thread for one of the calls that the run asked for. Where none can be made the run has failed.
-    fn start_one(&self) {
+    /// Starts a thread for one of the calls that the run asked for. Where none can be made the call is left, or given up where the run is
+    /// stopped. Whether it isn't left.
+    fn start_one(&self) -> bool {
         let (net, serving, stops, watch) = (self.net, self.serving, self.stops, self.watch);
         let started = self
             .scope
             .spawn(move || call_next(net, serving, stops, watch));
-        if started.is_err() {
-            stops.lack_memory();
-            if let Some(asked) = stops.next_call(net) {
-                asked.call.give_up(net);
-            }
+        if started.is_ok() {
+            return true;
         }
+        if !stops.is_stopped() {
+            return false;
+        }
+        if let Some(asked) = stops.next_call(net) {
+            asked.call.give_up(net);
+        }
+        true
     }
 
-    /// Starts who calls the peers that were asked for since so many were. How many are by now.
+    /// Starts who calls the peers that were asked for since so many calls were begun. How many are by now: less than were asked for where
+    /// the system refuses a thread.
     fn start_new(&self, started: u64) -> u64 {
         let asked = self.stops.asked();
-        for _ in started..asked {
-            self.start_one();
+        for call in started..asked {
+            if !self.start_one() {
+                return call;
+            }
         }
         asked
+    }
+
+    /// How long it is, where so many calls were begun, until the others are tried again, if there are any.
+    fn again(&self, started: u64) -> Option<Duration> {
+        if started < self.stops.asked() {
+            Some(moment())
+        } else {
+            None
+        }
     }
 
     /// Starts who accepts callers. Where no thread can be made for it the run has failed.
@@ -305,7 +322,8 @@ impl<
             due = self.remind(due);
             look = self.stem(look);
             let tick = earlier(self.watch.tick(), self.until(earlier(due, look)));
-            self.stops.turn(self.net, tick);
+            self.stops
+                .turn(self.net, earlier(tick, self.again(started)));
         }
     }
 }

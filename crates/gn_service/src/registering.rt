@@ -9,14 +9,20 @@ use gn_threads::RunFault;
 use std::alloc::Allocator;
 use std::sync::Wait;
 use std::thread;
+use std::thread::Threads;
 use std::time::{Clock, Duration};
 
-/// Milliseconds that are waited before a peer is called again, or the system asked for a handle.
+/// Milliseconds that are waited before a peer is called again, or the system asked for a handle or a thread.
 const PAUSE: u64 = 50;
 
-/// Waits a moment, after which a call, or a handle, may be had.
+/// How long a moment is, after which a call, a handle or a thread may be had.
+pub(crate) fn moment() -> Duration {
+    Duration::from_millis(PAUSE)
+}
+
+/// Waits a moment.
 pub(crate) fn pause<N: Clock>(net: &N) {
-    thread::sleep(net, Duration::from_millis(PAUSE));
+    thread::sleep(net, moment());
 }
 
 /// Waits until the link has all handles that it needs, and takes the one that ends it. None where the run is stopped meanwhile.
@@ -39,6 +45,40 @@ pub(crate) fn stopper_of<N: Clock, A: Allocator>(
         pause(net);
     }
     None
+}
+
+/// Whether the system gives the two threads that a link needs: two that do nothing are started at once, and joined. Another program may
+/// take them before the run does.
+fn has_threads<N: Threads>(net: &N) -> bool {
+    let Ok(reader) = thread::spawn(net, || ()) else {
+        return false;
+    };
+    let writer = thread::spawn(net, || ());
+    reader.join(net);
+    match writer {
+        Ok(writer) => {
+            writer.join(net);
+            true
+        }
+        Err(_) => false,
+    }
+}
+
+/// Waits until the system gives the threads that a link needs. False where the run is stopped meanwhile.
+pub(crate) fn threads_come<N: Threads + Clock, A: Allocator>(
+    net: &N,
+    stops: &Stops<'_, A>,
+) -> bool {
+    for _ in 0..u64::MAX {
+        if has_threads(net) {
+            return true;
+        }
+        if stops.is_stopped() {
+            return false;
+        }
+        pause(net);
+    }
+    false
 }
 
 /// The link, which ends with the run. Its peer is let go where the run is stopped before. At a fault the links that have come are

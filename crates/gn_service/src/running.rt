@@ -26,7 +26,7 @@ use std::alloc::{Allocator, Global};
 use std::net::{Net, TcpListener, TcpStream};
 use std::sync::Wait;
 use std::thread;
-use std::thread::Threads;
+use std::thread::{Scope, Threads};
 use std::time::Clock;
 
 /// A run over these links, at most 256, by a router of no steps.
@@ -81,16 +81,16 @@ where
         let owed = Owed::of(self.serve, stop, self.links());
         let stops = Stops::new(rt, self.alloc, stop, serving, listener, false, owed);
         let stops = &stops;
-        let ((), answer) = thread::join(
+        run_watched(
             rt,
             || watch_and_call(rt, serving, stops, watch, None, None),
+            || stops.lack_memory(),
             move ||
                 ensures served { let s = self.entry.serve.now in
                     IsTallied s.batch s.config.now s.peers.now s.accept s.workers result.0 }
                 ensures rest { IsLeft (W.follows self.entry.routing.course) W.leaves result.1 (AreStepsOf result.0) }
             { self.run(stops) },
-        );
-        answer
+        )
     }
 
     /// Runs the router, until `stops` ends it where it is stopped. Where one of its calls fails the run has failed, whatever it answers.
@@ -199,4 +199,41 @@ pub(crate) fn watch_and_call<
         };
         callers.watch();
     });
+}
+
+/// Runs a body, and what watches it beside it, in a thread of its own. Where none can be made that is told first, and nobody watches.
+pub(crate) fn run_watched<
+    R: Threads + Wait,
+    F: FnOnce() + Send + Drop,
+    L: FnOnce(),
+    T,
+    B: FnOnce() -> T,
+>(rt: &R, watch: F, lack: L, body: B) -> T
+    requires { F.pre watch × L.pre lack × B.pre body }
+    ensures { B.post body result }
+{
+    thread::scope(
+        thread::scope_env(),
+        rt,
+        |scope| -> T
+            requires { F.pre watch × L.pre lack × B.pre body }
+            ensures { B.post body result }
+        { run_within(scope, watch, lack, body) },
+    )
+}
+
+/// The same, with a thread of this scope.
+fn run_within<'x, X: 'x, F: FnOnce() + Send + Drop + 'x, L: FnOnce(), T, B: FnOnce() -> T>(
+    scope: &Scope<'x, X>,
+    watch: F,
+    lack: L,
+    body: B,
+) -> T
+    requires { F.pre watch × L.pre lack × B.pre body }
+    ensures { B.post body result }
+{
+    if scope.spawn(watch).is_err() {
+        lack();
+    }
+    body()
 }

@@ -1,9 +1,9 @@
 use denote.Exit.{yes}
 use denote.Param.Send.{arg_send, arg_sync, copied_send, copied_sync, param_send, param_sync}
-use Rattle.gn_service.proofs.any.fn.Unlimited.beside.join+arg3+FnOnce.call_once.Goals as goal
+use Rattle.gn_service.proofs.any.fn.Unlimited.beside.run_watched+arg4+FnOnce.call_once.Goals as goal
 
-pub join+arg3-requires : goal.join+arg3-requires
-join+arg3-requires g c =
+pub run_watched+arg4-requires : goal.run_watched+arg4-requires
+run_watched+arg4-requires g c =
     let bounds = c.requires.1.1.1.1.1.1.1.1.1 in (
       param_send _ _ (arg_send _ yes _ bounds.0),
       (
