@@ -154,7 +154,8 @@ impl TcpLink<'static> {
         }
     }
 
-    /// As `call_within`, and says why the peer wasn't reached; `InvalidInput`, where it is on another machine.
+    /// As `call_within`, and says why the peer wasn't reached; `InvalidInput`, where it is on another machine. A call that the system joins
+    /// with itself was refused.
     pub fn try_call<N: Net<Listener = TcpListener, Stream = TcpStream>>(
         net: &N,
         peer: SocketAddr,
@@ -183,9 +184,23 @@ impl TcpLink<'static> {
             × (link.origin ≡ record { link = 0; called = Some peer })) }
     {
         match net.connect_timeout(peer, limit) {
-            Ok(stream) => Ok(TcpLink::calling(stream, peer)),
+            Ok(stream) => TcpLink::calling_other(stream, peer),
             Err(error) => Err(Unmet::of(&error)),
         }
+    }
+
+    /// A link over a socket that was connected to this peer, unless it is joined with itself: then nobody is there, and the peer refuses.
+    fn calling_other(stream: TcpStream, peer: SocketAddr) -> Result<Self, Unmet>
+        ensures { IfOk result (λ link. (link.role ≡ Calling)
+            × (link.origin ≡ record { link = 0; called = Some peer })) }
+    {
+        if is_own(&stream, peer) {
+            return Err(Unmet {
+                why: ErrorKind::ConnectionRefused,
+                wants_handle: false,
+            });
+        }
+        Ok(TcpLink::calling(stream, peer))
     }
 
     /// A link over a socket that was connected to this peer. Its number is given later.
@@ -193,6 +208,15 @@ impl TcpLink<'static> {
         ensures { (result.role ≡ Calling) × (result.origin ≡ record { link = 0; called = Some peer }) }
     {
         TcpLink::over(Socket::Connected(stream), peer, Role::Calling, Some(peer))
+    }
+}
+
+/// Whether a socket that was connected to this address is joined with itself. Where nobody listens on a port the system may give that very
+/// port to a call of it, and TCP joins the two ends.
+fn is_own(stream: &TcpStream, peer: SocketAddr) -> bool {
+    match stream.local_addr() {
+        Ok(own) => own == peer,
+        Err(_) => false,
     }
 }
 
