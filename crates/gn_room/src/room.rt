@@ -112,9 +112,10 @@ impl Room {
         }
     }
 
-    /// Wakes who takes steps, where it sleeps.
+    /// Wakes who takes steps, where it sleeps. The first that finds it so does, and not each that makes a step until it runs again.
     pub fn wake<R: Wait>(&self, rt: &R) {
-        if self.is_idle.load(Ordering::SeqCst) {
+        // Looked at first, as it is mostly false, and a swap would take its cache line from the other threads at each step.
+        if self.is_idle.load(Ordering::SeqCst) && self.is_idle.swap(false, Ordering::SeqCst) {
             self.notify(rt);
         }
     }
@@ -141,9 +142,10 @@ impl Room {
     /// As `await_step`, for a thread that has tried.
     fn sleep_until_step<R: Wait>(&self, rt: &R) {
         let mut door = self.door.lock(rt);
-        // Said before the counts are looked at, so that who makes a step after that sees it.
-        self.is_idle.store(true, Ordering::SeqCst);
         for _ in rt.forever() {
+            // Said before the counts are looked at, so that who makes a step after that sees it; again after each sleep, since who wakes
+            // this thread takes it back.
+            self.is_idle.store(true, Ordering::SeqCst);
             if self.is_over() || self.waiting() > 0 {
                 break;
             }
