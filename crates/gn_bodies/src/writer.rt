@@ -26,6 +26,9 @@ use std::alloc::{AllocError, Allocator, Global};
 use std::sync::Wait;
 use std::sync::ledger::Ledger;
 
+/// The most bytes of memory that a text keeps once it was written.
+const MOST_KEPT: usize = 262_144;
+
 /// What the body of a writer gives back.
 #[derive(Drop)]
 pub struct WriterDone<W, L: Ledger + Named, A: Allocator = Global> {
@@ -64,6 +67,14 @@ impl<A: Allocator + Copy> Lent<A> {
         Lent {
             taken: Vec::new(alloc),
             text: Vec::new(alloc),
+        }
+    }
+
+    /// Empties the text, which was written, and gives its memory back where that is much.
+    fn forget_text(&mut self) {
+        self.text.clear();
+        if self.text.capacity() > MOST_KEPT {
+            self.text.shrink_to_fit();
         }
     }
 }
@@ -184,7 +195,8 @@ impl<
     R: Wait,
     A: Allocator + Copy,
 > WriterHandler<'s, W, G, L, C, R, A> {
-    /// Encodes the packets that were taken, and writes them as one text. None where all of it was written; else how the body ends.
+    /// Encodes the packets that were taken, and writes them as one text. None where all of it was written, of which little memory is kept
+    /// then; else how the body ends.
     fn write_taken(&mut self) -> Option<Result<WriterEnd, BodyFault>>
         ensures same { (self.new.caller ≡ self.old.caller) × (self.new.idle ≡ self.old.idle) }
         ensures made { W.made_of self.new.writer ≡ W.made_of self.old.writer }
@@ -198,6 +210,7 @@ impl<
         if !write_text(self.caller.rt(), &mut self.writer, text) {
             return Some(Ok(WriterEnd::WriteFailed));
         }
+        self.lent.forget_text();
         None
     }
 
