@@ -4,7 +4,7 @@ ghost use Rattle.std.specs.Prelude.{◌≡◌, false};
 ghost use Rattle.rtrb.specs.Ring.{IsPair, sent};
 ghost use Rattle.gn_scribe.specs.Written.{HasEnded};
 
-use crate::scribe::Scribe;
+use crate::scribe::{Nobody, Scribe};
 use gn_io::Sink;
 use gn_printed::{PrintFault, Waiting};
 use gn_rules::Step;
@@ -26,7 +26,7 @@ impl<A: Allocator + Copy> Scribe<A> {
         let mut scribe = self;
         let count = scribe.steps.slots_beside(producer);
         written?;
-        scribe.write_known(count, sink)?;
+        scribe.write_known(count, &Nobody, sink)?;
         let Scribe {
             block,
             is_begun,

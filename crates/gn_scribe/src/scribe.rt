@@ -19,6 +19,38 @@ const LOOKS: u32 = 8;
 /// As many steps as it took since it wrote what waited, before it looks no more.
 const UNWRITTEN: usize = 64;
 
+/// After so many steps that it took there is room for as many.
+const FREED: usize = 256;
+
+/// Who is told of steps that were taken.
+pub(crate) trait Freed {
+    /// The step at this place of those that have come was taken.
+    fn taken(&self, place: usize);
+}
+
+/// Nobody makes steps any more.
+#[derive(Drop)]
+pub(crate) struct Nobody;
+
+impl Freed for Nobody {
+    fn taken(&self, _place: usize) {}
+}
+
+/// Those who wait for room.
+#[derive(Drop)]
+struct Waiters<'a, R> {
+    rt: &'a R,
+    room: &'a Room,
+}
+
+impl<'a, R: Wait> Freed for Waiters<'a, R> {
+    fn taken(&self, place: usize) {
+        if place % FREED == FREED - 1 {
+            self.room.took(self.rt, FREED as u64);
+        }
+    }
+}
+
 /// Takes the steps of a run out of their ring, and writes their lines in blocks. It keeps none: in memory is no more than a block and a
 /// line of the text.
 #[derive(Drop)]
@@ -47,10 +79,11 @@ impl<A: Allocator + Copy> Scribe<A> {
         }
     }
 
-    /// Takes so many steps, which have come, and writes their lines.
-    pub(crate) fn write_known<W: Sink>(
+    /// Takes so many steps, which have come, and writes their lines. A slow sink has nobody wait for room until all are written.
+    pub(crate) fn write_known<F: Freed, W: Sink>(
         &mut self,
         count: usize,
+        waiters: &F,
         sink: &mut W,
     ) -> Result<(), PrintFault>
         requires { count ≡ length (known_items self.old.steps) }
@@ -61,24 +94,29 @@ impl<A: Allocator + Copy> Scribe<A> {
         ensures err { OnErr result (HasBroken self.old self.new (W.state sink.old) (W.state sink.new)) }
         ensures cause { IfErr result (λ fault. IsPrintFault fault (W.state sink.old) (W.state sink.new)) }
     {
-        for _ in 0..count {
+        for place in 0..count {
             let step = self.steps.pop_known();
             self.is_begun = true;
             let printed = print_step(&step, &mut self.block, sink);
             drop(step);
             printed?;
+            waiters.taken(place);
         }
         Ok(())
     }
 
     /// Takes the steps that have come by now, and writes their lines. How many they were.
-    fn write_come<W: Sink>(&mut self, sink: &mut W) -> Result<usize, PrintFault>
+    fn write_come<F: Freed, W: Sink>(
+        &mut self,
+        waiters: &F,
+        sink: &mut W,
+    ) -> Result<usize, PrintFault>
         ensures ok { OnOk result (HasWritten self.old self.new (W.state sink.old) (W.state sink.new)) }
         ensures err { OnErr result (HasBroken self.old self.new (W.state sink.old) (W.state sink.new)) }
         ensures cause { IfErr result (λ fault. IsPrintFault fault (W.state sink.old) (W.state sink.new)) }
     {
         let count = self.steps.slots();
-        self.write_known(count, sink)?;
+        self.write_known(count, waiters, sink)?;
         Ok(count)
     }
 
@@ -128,8 +166,8 @@ impl<A: Allocator + Copy> Scribe<A> {
         ensures cause { IfErr result (λ fault. IsPrintFault fault (W.state sink.old) (W.state sink.new)) }
     {
         let is_over = room.is_over();
-        let count = self.write_come(sink)?;
-        room.took(rt, count as u64);
+        let count = self.write_come(&Waiters { rt, room }, sink)?;
+        room.took(rt, (count % FREED) as u64);
         if is_over {
             return Ok(count == 0);
         }
