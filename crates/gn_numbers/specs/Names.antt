@@ -129,7 +129,7 @@ line_word_name line.Stats = codes "stats"
 -- the word that a field is
 abbrev pub line_word_named : List ℕ → Option LineWord
 line_word_named field =
-    named (with_names line_word_name (line.Join ∷ line.Open ∷ line.Data ∷ line.Route ∷ line.Take ∷ line.Close ∷ line.Ping
+    named (with_names line_word_name (line.Take ∷ line.Data ∷ line.Route ∷ line.Join ∷ line.Open ∷ line.Close ∷ line.Ping
     ∷ line.Query ∷ line.Stats ∷ [])) field
 
 -- ---- places

@@ -23,13 +23,14 @@ pub enum LineWord {
 pub fn line_word_named(field: &[u8]) -> Option<LineWord>
     ensures { result ≡ line_word_named field.now }
 {
+    // those that most lines begin with stand first
     named(
         &[
-            ("join", LineWord::Join),
-            ("open", LineWord::Open),
+            ("take", LineWord::Take),
             ("data", LineWord::Data),
             ("route", LineWord::Route),
-            ("take", LineWord::Take),
+            ("join", LineWord::Join),
+            ("open", LineWord::Open),
             ("close", LineWord::Close),
             ("ping", LineWord::Ping),
             ("query", LineWord::Query),

@@ -22,6 +22,9 @@ pub enum Payload<'a> {
 }
 
 /// The reading of a payload of this kind. `None` where it has none, as any of an unknown kind.
+///
+/// It is inlined, so that what was read isn't moved to who takes it apart.
+#[inline(always)]
 pub fn read_payload(kind: Kind, bytes: &[u8]) -> Option<Payload<'_>>
     ensures { option_map payload_seen result ≡ reading kind bytes.now }
 {

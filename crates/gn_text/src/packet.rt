@@ -5,9 +5,9 @@ ghost use Rattle.std.specs.Prelude.{◌≡◌, ◌+◌, ◌-◌, ◌≤◌, ◌+
 ghost use Rattle.hex.specs.Hex.{encode_lower};
 ghost use Rattle.gn_text.specs.Steps.{mark_text, packet_text, sends_text};
 
-use crate::push::{push_hex, push_hex_of_both, push_named};
+use crate::push::{push_hex, push_hex_of_both, write_number};
 use gn_rules::Sending;
-use gn_wire::{Descriptor, HEADER_BYTES, whole_or_none, write_header};
+use gn_wire::{Descriptor, HEADER_BYTES, write_header};
 use std::alloc::{AllocError, Allocator};
 
 /// A header and the byte after it: their digits are put eight bytes at a time, and no byte is left over.
@@ -47,18 +47,16 @@ fn push_packet<A: Allocator, B: Allocator>(
     }
 }
 
-/// Appends a space and then a descriptor. An `Err` is out of memory, and changes nothing.
-pub(crate) fn push_packet_field<A: Allocator, B: Allocator>(
+/// Writes a space and then a descriptor behind what stands there. An `Err` is out of memory, and may leave the space.
+pub(crate) fn write_packet_field<A: Allocator, B: Allocator>(
     out: &mut Vec<u8, B>,
     packet: &Descriptor<A>,
 ) -> Result<(), AllocError>
     ensures ok { OnOk result (out.new.items ≡ out.old.items ++ (codes " " ++ packet_text packet.now)) }
-    ensures err { OnErr result (out.new.items ≡ out.old.items) }
+    ensures err { OnErr result (take (length out.old.items) out.new.items ≡ out.old.items) }
 {
-    let start = out.len();
-    out.extend_from_slice(b" ")?;
-    let written = push_packet(out, packet);
-    whole_or_none(out, start, written)
+    out.push(b' ')?;
+    push_packet(out, packet)
 }
 
 /// Puts what stands at a place, from the first index up to the second, in place of what stands from `start` on.
@@ -111,29 +109,28 @@ fn write_next<A: Allocator, B: Allocator>(
 }
 
 /// The mark of a send.
-fn mark_name(queued: bool) -> &'static [u8]
-    ensures { result.now ≡ mark_text queued }
+fn mark(queued: bool) -> u8
+    ensures { result ∷ [] ≡ mark_text queued }
 {
-    if queued { b"+" } else { b"-" }
+    if queued { b'+' } else { b'-' }
 }
 
-/// Appends the connection and the mark of a send. An `Err` is out of memory, and changes nothing.
-fn push_target<A: Allocator, B: Allocator>(
+/// Writes the connection and the mark of a send behind what stands there. An `Err` is out of memory, and may leave a part of it.
+fn write_target<A: Allocator, B: Allocator>(
     out: &mut Vec<u8, B>,
     sending: &Sending<A>,
 ) -> Result<(), AllocError>
     ensures ok { OnOk result (out.new.items
         ≡ out.old.items ++ (codes " " ++ decimal sending.now.to ++ mark_text sending.now.queued)) }
-    ensures err { OnErr result (out.new.items ≡ out.old.items) }
+    ensures err { OnErr result (take (length out.old.items) out.new.items ≡ out.old.items) }
 {
-    let start = out.len();
-    push_named(out, b" ", sending.to)?;
-    let written = out.extend_from_slice(mark_name(sending.queued));
-    whole_or_none(out, start, written)
+    write_number(out, sending.to)?;
+    out.push(mark(sending.queued))?;
+    Ok(())
 }
 
-/// Appends the sends. An `Err` is out of memory, and leaves what stood there before as it was.
-fn write_sends<A: Allocator, B: Allocator>(
+/// Writes the sends behind what stands there. An `Err` is out of memory, and may leave a part of them.
+pub(crate) fn write_sends<A: Allocator, B: Allocator>(
     out: &mut Vec<u8, B>,
     sends: &[Sending<A>],
 ) -> Result<(), AllocError>
@@ -143,24 +140,11 @@ fn write_sends<A: Allocator, B: Allocator>(
     let mut before = None;
     let mut place = (0, 0);
     for sending in sends {
-        push_target(out, sending)?;
+        write_target(out, sending)?;
         let start = out.len();
         write_next(out, &sending.packet, before, place)?;
         before = Some(&sending.packet);
         place = (start, out.len());
     }
     Ok(())
-}
-
-/// Appends the sends. An `Err` is out of memory, and changes nothing.
-pub(crate) fn push_sends<A: Allocator, B: Allocator>(
-    out: &mut Vec<u8, B>,
-    sends: &[Sending<A>],
-) -> Result<(), AllocError>
-    ensures ok { OnOk result (out.new.items ≡ out.old.items ++ sends_text sends.now) }
-    ensures err { OnErr result (out.new.items ≡ out.old.items) }
-{
-    let start = out.len();
-    let written = write_sends(out, sends);
-    whole_or_none(out, start, written)
 }

@@ -1,9 +1,8 @@
 //! Numbers and bytes as they are written.
 
-ghost use Rattle.std.specs.Prelude.{◌≡◌, ◌<◌, ◌+◌, ◌*◌, ◌++◌, codes, decimal, length, slice_index, OnErr, OnOk};
+ghost use Rattle.std.specs.Prelude.{◌≡◌, ◌<◌, ◌+◌, ◌*◌, ◌++◌, codes, decimal, length, slice_index, take, OnErr, OnOk};
 ghost use Rattle.hex.specs.Hex.{encode_lower, lower_digits};
 
-use gn_wire::whole_or_none;
 use itoa::Buffer;
 use std::alloc::{AllocError, Allocator};
 
@@ -21,38 +20,30 @@ pub fn push_number<B: Allocator>(out: &mut Vec<u8, B>, number: u32) -> Result<()
     out.extend_from_slice(buffer.format(number).as_bytes())
 }
 
-/// Appends letters as they stand and then a number. An `Err` is out of memory, and changes nothing.
-///
-/// It is inlined, so that letters which are known where it is called are written without a call.
-#[inline(always)]
+/// Writes a space and then a number behind what stands there. An `Err` is out of memory, and may leave the space.
 #[tactic(auto, using(crate::proofs::KeptLemmas::kept))]
-pub(crate) fn push_named<B: Allocator>(
+pub(crate) fn write_number<B: Allocator>(
     out: &mut Vec<u8, B>,
-    name: &[u8],
     number: u32,
 ) -> Result<(), AllocError>
-    ensures ok { OnOk result (out.new.items ≡ out.old.items ++ (name.now ++ decimal number)) }
-    ensures err { OnErr result (out.new.items ≡ out.old.items) }
+    ensures ok { OnOk result (out.new.items ≡ out.old.items ++ (codes " " ++ decimal number)) }
+    ensures err { OnErr result (take (length out.old.items) out.new.items ≡ out.old.items) }
 {
-    let start = out.len();
-    out.extend_from_slice(name)?;
-    let written = push_number(out, number);
-    whole_or_none(out, start, written)
+    out.push(b' ')?;
+    push_number(out, number)
 }
 
-/// Appends a space and then letters as they stand. An `Err` is out of memory, and changes nothing.
+/// Writes a space and then letters as they stand behind what stands there. An `Err` is out of memory, and may leave the space.
 #[tactic(auto, using(crate::proofs::KeptLemmas::kept))]
-pub(crate) fn push_field<B: Allocator>(
+pub(crate) fn write_field<B: Allocator>(
     out: &mut Vec<u8, B>,
     letters: &[u8],
 ) -> Result<(), AllocError>
     ensures ok { OnOk result (out.new.items ≡ out.old.items ++ (codes " " ++ letters.now)) }
-    ensures err { OnErr result (out.new.items ≡ out.old.items) }
+    ensures err { OnErr result (take (length out.old.items) out.new.items ≡ out.old.items) }
 {
-    let start = out.len();
-    out.extend_from_slice(b" ")?;
-    let written = out.extend_from_slice(letters);
-    whole_or_none(out, start, written)
+    out.push(b' ')?;
+    out.extend_from_slice(letters)
 }
 
 /// The hex digit of lower case that says a number below 16.

@@ -5,9 +5,9 @@ ghost use Rattle.std.specs.Prelude.{◌≡◌, ◌++◌, length, take, OnOk, OnE
 ghost use Rattle.gn_rules.specs.declared.receipt.Step.{Step};
 ghost use Rattle.gn_text.specs.Steps.{step_text};
 
-use crate::event::push_event;
+use crate::event::write_event;
 use crate::push::push_number;
-use crate::reply::push_reply;
+use crate::reply::write_reply;
 use gn_rules::{Event, Reply, Step};
 use gn_wire::whole_or_none;
 use std::alloc::{AllocError, Allocator};
@@ -24,10 +24,10 @@ fn write_step<A: Allocator, B: Allocator>(
     ensures err { OnErr result (take (length out.old.items) out.new.items ≡ out.old.items) }
 {
     push_number(out, actor)?;
-    out.extend_from_slice(b" ")?;
-    push_event(out, event)?;
+    out.push(b' ')?;
+    write_event(out, event)?;
     out.extend_from_slice(b" = ")?;
-    push_reply(out, reply)?;
+    write_reply(out, reply)?;
     out.extend_from_slice(b"\n")
 }
 
