@@ -27,16 +27,17 @@ fn add_time(object: &mut Vec<u8>, time: &[u8]) -> Result<(), AllocError>
     object.extend_from_slice(b"}")
 }
 
-/// The line of a step whose event speaks of this packet.
+/// The line of a step whose event speaks of this packet, in the place of this text.
 fn json_line(
     alloc: Global,
+    text: Vec<u8>,
     subject: Option<Subject<'_>>,
     moment: Moment<'_>,
     step: &Step,
 ) -> Result<Vec<u8>, AllocError>
     ensures { IfOk result (λ line. line.items ≡ json_line (seen subject.entry) (placed moment.entry) step.now) }
 {
-    let mut tokens = Tokens::new(alloc)?;
+    let mut tokens = Tokens::over(text);
     put_step(alloc, &mut tokens, subject, moment.index, step)?;
     let mut line = tokens.into_text();
     add_time(&mut line, moment.time)?;
@@ -44,9 +45,10 @@ fn json_line(
     Ok(line)
 }
 
-/// The line of a step, which comes next; what it leaves in flight is followed.
+/// The line of a step, which comes next, in the place of this text; what it leaves in flight is followed.
 pub(crate) fn next_json(
     alloc: Global,
+    text: Vec<u8>,
     flight: &mut Flight,
     moment: Moment<'_>,
     step: Step,
@@ -55,7 +57,7 @@ pub(crate) fn next_json(
         → (line.items ≡ json_line (subject (waiting past) step.event) (placed moment.entry) step)
         × Follows flight.new (step ∷ past)) }
 {
-    let made = json_line(alloc, flight.subject(&step.event), moment, &step);
+    let made = json_line(alloc, text, flight.subject(&step.event), moment, &step);
     let line = made?;
     flight.follow(step)?;
     Ok(line)

@@ -25,6 +25,16 @@ use gn_replay::ReplayFault;
 use gn_rules::Step;
 use gn_stream::{Due, Entry, LineReader, next_entry};
 use std::alloc::{AllocError, Global};
+use std::mem::replace;
+
+/// What lines are made in.
+#[derive(Drop)]
+pub(crate) struct LineRoom {
+    /// What writes rows.
+    rows: RowWriter,
+    /// The memory of the line before.
+    text: Vec<u8>,
+}
 
 /// What is kept between two lines of a history.
 pub(crate) struct Showing {
@@ -34,8 +44,7 @@ pub(crate) struct Showing {
     time: Vec<u8>,
     /// What was admitted and isn't routed yet.
     flight: Flight,
-    /// What writes rows.
-    rows: RowWriter,
+    room: LineRoom,
     /// The index of the next step.
     index: u32,
     /// What is shown and waits to be written.
@@ -48,7 +57,7 @@ impl Drop for Showing {
             due: _,
             time: _,
             flight: _,
-            rows: _,
+            room: _,
             index: _,
             block: _,
         } = self;
@@ -71,7 +80,7 @@ fn due_head(due: Due, form: Form) -> &'static [u8]
 fn line_of(
     alloc: Global,
     form: Form,
-    rows: &mut RowWriter,
+    room: &mut LineRoom,
     flight: &mut Flight,
     moment: Moment<'_>,
     step: Step,
@@ -81,8 +90,11 @@ fn line_of(
 {
     match form {
         Form::Plain => plain_line(alloc, moment.index, &step),
-        Form::Json => next_json(alloc, flight, moment, step),
-        Form::Rows => next_lines(alloc, rows, flight, moment, step),
+        Form::Json => {
+            let text = replace(&mut room.text, Vec::new(alloc));
+            next_json(alloc, text, flight, moment, step)
+        }
+        Form::Rows => next_lines(alloc, &mut room.rows, flight, moment, step),
     }
 }
 
@@ -95,7 +107,10 @@ impl Showing {
             due: Due::Title,
             time: Vec::new(alloc),
             flight: Flight::new(alloc),
-            rows: RowWriter::new(alloc),
+            room: LineRoom {
+                rows: RowWriter::new(alloc),
+                text: Vec::new(alloc),
+            },
             index: 0,
             block: Block::new(alloc),
         }
@@ -115,8 +130,9 @@ impl Showing {
             index: self.index,
             time: &self.time,
         };
-        let line = line_of(alloc, form, &mut self.rows, &mut self.flight, moment, step)?;
+        let line = line_of(alloc, form, &mut self.room, &mut self.flight, moment, step)?;
         self.block.add(&line)?;
+        self.room.text = line;
         self.index = next;
         Ok(())
     }

@@ -12,9 +12,6 @@ use json::Writer;
 use std::alloc::{AllocError, Global};
 use std::marker::Model;
 
-/// The bytes that a value is begun with.
-const ROOM: usize = 512;
-
 /// A value, as far as it is written. It is seen as its tokens.
 #[derive(Drop)]
 pub(crate) struct Tokens {
@@ -35,13 +32,15 @@ impl Model for Tokens {
 }
 
 impl Tokens {
-    /// Nothing is written yet.
-    pub(crate) fn new(alloc: Global) -> Result<Self, AllocError>
-        ensures { IfOk result (λ tokens. tokens ≡ []) }
+    /// Nothing is written yet. The value is written in the place of this text.
+    pub(crate) fn over(text: Vec<u8>) -> Self
+        ensures { result ≡ [] }
     {
-        Ok(Tokens {
-            out: Writer::new(Vec::with_capacity(alloc, ROOM)?),
-        })
+        let mut text = text;
+        text.clear();
+        Tokens {
+            out: Writer::new(text),
+        }
     }
 
     /// The text of what is written.

@@ -22,5 +22,5 @@ line_made a place step none tokens text timed line new written same time end =
 
 pub returns : goal.returns
 returns c =
-    line_made (seen c.args.subject) (placed c.args.moment) c.args.step.now _ _ _ _ _ c.in_ok-tokens.ensures c.in_ok-put_step.ensures c.into_text-line.ensures c.in_ok-add_time.ensures
+    line_made (seen c.args.subject) (placed c.args.moment) c.args.step.now _ _ _ _ _ c.over-tokens.ensures c.in_ok-put_step.ensures c.into_text-line.ensures c.in_ok-add_time.ensures
     c.in_ok-push.ensures.items
