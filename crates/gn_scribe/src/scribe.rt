@@ -19,11 +19,11 @@ const LOOKS: u32 = 8;
 /// As many steps as it took since it wrote what waited, before it looks no more.
 const UNWRITTEN: usize = 64;
 
-/// After so many steps that it took there is room for as many.
-const FREED: usize = 256;
+/// How many steps it takes before it makes room for as many.
+const ROOM_AT_ONCE: usize = 256;
 
 /// Who is told of steps that were taken.
-pub(crate) trait Freed {
+pub(crate) trait Notify {
     /// The step at this place of those that have come was taken.
     fn taken(&self, place: usize);
 }
@@ -32,7 +32,7 @@ pub(crate) trait Freed {
 #[derive(Drop)]
 pub(crate) struct Nobody;
 
-impl Freed for Nobody {
+impl Notify for Nobody {
     fn taken(&self, _place: usize) {}
 }
 
@@ -43,10 +43,10 @@ struct Waiters<'a, R> {
     room: &'a Room,
 }
 
-impl<'a, R: Wait> Freed for Waiters<'a, R> {
+impl<'a, R: Wait> Notify for Waiters<'a, R> {
     fn taken(&self, place: usize) {
-        if place % FREED == FREED - 1 {
-            self.room.took(self.rt, FREED as u64);
+        if place % ROOM_AT_ONCE == ROOM_AT_ONCE - 1 {
+            self.room.took(self.rt, ROOM_AT_ONCE as u64);
         }
     }
 }
@@ -79,11 +79,12 @@ impl<A: Allocator + Copy> Scribe<A> {
         }
     }
 
-    /// Takes so many steps, which have come, and writes their lines. A slow sink has nobody wait for room until all are written.
-    pub(crate) fn write_known<F: Freed, W: Sink>(
+    /// Takes so many steps, which have come, and writes their lines. Who waits for room is told while it goes on: a slow sink holds
+    /// nobody until all are written.
+    pub(crate) fn write_known<N: Notify, W: Sink>(
         &mut self,
         count: usize,
-        waiters: &F,
+        waiters: &N,
         sink: &mut W,
     ) -> Result<(), PrintFault>
         requires { count ≡ length (known_items self.old.steps) }
@@ -106,9 +107,9 @@ impl<A: Allocator + Copy> Scribe<A> {
     }
 
     /// Takes the steps that have come by now, and writes their lines. How many they were.
-    fn write_come<F: Freed, W: Sink>(
+    fn write_come<N: Notify, W: Sink>(
         &mut self,
-        waiters: &F,
+        waiters: &N,
         sink: &mut W,
     ) -> Result<usize, PrintFault>
         ensures ok { OnOk result (HasWritten self.old self.new (W.state sink.old) (W.state sink.new)) }
@@ -167,7 +168,7 @@ impl<A: Allocator + Copy> Scribe<A> {
     {
         let is_over = room.is_over();
         let count = self.write_come(&Waiters { rt, room }, sink)?;
-        room.took(rt, (count % FREED) as u64);
+        room.took(rt, (count % ROOM_AT_ONCE) as u64);
         if is_over {
             return Ok(count == 0);
         }
