@@ -1,6 +1,6 @@
 -- A history that was written while its run went on.
-use Rattle.std.proofs.Common.{◌≡◌, ◌∙◌, ◌+◌, ◌↔◌, ℕ, true, List, [], ◌++◌, codes, length, reverse, Option, None, Some, Result, Ok, Err, append-nil, arith, inl, inr, refl, subst, sym}
-use Rattle.std.specs.Prelude.{⊤, IfSome, IsSome, MatchResult}
+use Rattle.std.proofs.Common.{◌≡◌, ◌∙◌, ◌+◌, ◌↔◌, ℕ, true, List, [], ◌++◌, codes, length, reverse, Option, None, Some, Result, Ok, Err, ap, append-nil, arith, inl, inr, refl, subst, sym}
+use Rattle.std.specs.Prelude.{⊤, IfErr, IfOk, IfSome, IsSome, MatchResult}
 use Rattle.rtrb.specs.Ring.{received}
 use Rattle.std.specs.Io.KnownBytes.{Appends}
 use Rattle.std.specs.declared.net.socket_addr.SocketAddr.{SocketAddr}
@@ -26,6 +26,7 @@ use Rattle.gn_threads.specs.Courses.{AreTallies}
 use Rattle.gn_start.specs.Faults.{IsArrivingFault}
 use Rattle.gn_start.specs.declared.fault.RunFault.{RunFault}
 use Rattle.gn_start.specs.declared.fault.RunFault.TheVariants.{BadWorkers, HistoryFull}
+use Rattle.gn_start.specs.declared.fault.RunFault.TheVariants as run_fault
 use Rattle.gn_threads.specs.declared.halted.Halted.{Halted}
 use Rattle.gn_threads.specs.Headline.{AreMadeOf, AreOfOne, Holds}
 use Rattle.gn_report.specs.Accounts.{report_of}
@@ -36,7 +37,7 @@ use Rattle.gn_service.specs.Links.{origins_of, roles_of}
 use Rattle.gn_service.specs.Ran.{Remembered, ran_of}
 use Rattle.gn_service.specs.Tallies.{tallies_of}
 use Rattle.gn_sockets.specs.TcpHalves.{TcpReading, TcpWriting, half_read, half_written}
-use Rattle.gn_load.specs.Journalled.{AppendsLegalPart, HasStoppedWriting, IsJournalled, of_print}
+use Rattle.gn_load.specs.Journalled.{AppendsLegalPart, HasFinishedRun, HasStoppedWriting, IsAnsweredBy, IsJournalled, fault_after, of_print}
 use Rattle.gn_load.specs.declared.serve_fault.ServeFault.{ServeFault}
 use Rattle.gn_load.specs.Served.{AppendsServedPart, IsServeFault}
 use Rattle.gn_load.specs.declared.serve_fault.ServeFault.TheVariants.{Run}
@@ -107,6 +108,10 @@ pub fault_of_print : (links workers : ℕ) (why : PrintFault) (old new : SinkSta
 fault_of_print links workers Write old new cause = cause
 fault_of_print links workers NoMemory old new cause = tt
 
+-- a run may be out of memory before it began
+pub arriving_fault : (links workers : ℕ) (fault : RunFault) → fault ≡ run_fault.NoMemory → IsArrivingFault true links workers fault
+arriving_fault links workers fault is = subst (λ f. IsArrivingFault true links workers f) (sym is) tt
+
 -- what is answered where no run began
 pub unbegun : {A : Type 0} (batch : ℕ) (s : Config) (peers : List SocketAddr) (accept workers : ℕ) (sink : SinkState) (halted : ServeHalted A) (fault : RunFault)
     → (halted.fault ≡ Run fault) × (halted.history ≡ None) × (halted.ran ≡ None) → (fault ≡ BadWorkers) ↔ (¬ IsCrew workers)
@@ -170,6 +175,12 @@ stopped_short {A} s steps old mid new why legal has history is still = (
   subst (λ (k : SinkState). IsPrintFault why old k) (sym still) has.1,
 )
 
+-- the fault of a run that stopped, by what waited of its text
+pub fault_by : {A : Type 0} (fault : RunFault) (waiting : Result (Waiting A) PrintFault) (printed : Result ⊤ PrintFault) (after : ServeFault) → after ≡ fault_after fault printed
+    → MatchResult waiting (λ _. printed ≡ Ok tt) (λ why. printed ≡ Err why) → MatchResult waiting (λ _. after ≡ Run fault) (λ why. after ≡ of_print why)
+fault_by fault (Ok waiting) printed after is by = is ∙ ap (λ p. fault_after fault p) by
+fault_by fault (Err why) printed after is by = is ∙ ap (λ p. fault_after fault p) by
+
 -- what a run answered that stopped, as far as that is known
 pub record HasStopped {A : Type 0} (s : Config) (links workers : ℕ) (steps : List (Step A)) (halted : Halted A) : Type 0 where
   pub crew : IsCrew workers
@@ -205,7 +216,7 @@ module _ {A : Type 0} (batch : ℕ) (s : Config) (peers : List SocketAddr) (acce
       }
 
   -- by what waited
-  pub stopped_as : (waiting : Result (Waiting A) PrintFault) → HasJournalled (header_text History s) steps old mid waiting
+  stopped_as : (waiting : Result (Waiting A) PrintFault) → HasJournalled (header_text History s) steps old mid waiting
       → MatchResult waiting (λ _. after.fault ≡ Run halted.fault) (λ why. after.fault ≡ of_print why) → HasStoppedWriting halted.history mid new waiting
       → IsJournalled batch s peers accept workers old new (Err after)
   stopped_as (Ok waiting) has is wrote =
@@ -216,7 +227,7 @@ module _ {A : Type 0} (batch : ℕ) (s : Config) (peers : List SocketAddr) (acce
       stopped_so (of_print why) is (other_than_workers workers why run.crew) (fault_of_print (length peers + accept) workers why old new short.1) (λ full. absurd (never_full why full)) short.0
 
 -- what is answered of a run with an account whose text was written
-pub all_written_of : {A : Type 0} (batch : ℕ) (s : Config) (peers : List SocketAddr) (accept workers : ℕ) (steps : List (Step A)) (old mid new : SinkState) (account : Account TcpReading TcpWriting A) (ran : Remembered A)
+all_written_of : {A : Type 0} (batch : ℕ) (s : Config) (peers : List SocketAddr) (accept workers : ℕ) (steps : List (Step A)) (old mid new : SinkState) (account : Account TcpReading TcpWriting A) (ran : Remembered A)
     (waiting : Result (Waiting A) PrintFault) (done : ⊤) → IsCrew workers → ran ≡ ran_of (report_of account)
     → Holds batch half_read half_written s (roles_of (length peers) (length peers + accept)) workers (report_of account)
     → AreMadeOf (λ half. half.origin) (λ half. half.origin) (origins_of peers (length peers + accept)) (report_of account) → AreOfOne (λ half. half.socket) (λ half. half.socket) (report_of account)
@@ -242,7 +253,7 @@ all_written_of {A} batch s peers accept workers steps old mid new account ran wa
     }
 
 -- what is answered of a run with an account whose text wasn't written whole
-pub unwritten : {A : Type 0} (batch : ℕ) (s : Config) (peers : List SocketAddr) (accept workers : ℕ) (steps : List (Step A)) (old mid new : SinkState) (account : Account TcpReading TcpWriting A) (ran : Remembered A)
+unwritten : {A : Type 0} (batch : ℕ) (s : Config) (peers : List SocketAddr) (accept workers : ℕ) (steps : List (Step A)) (old mid new : SinkState) (account : Account TcpReading TcpWriting A) (ran : Remembered A)
     (after : ServeHalted A) (waiting : Result (Waiting A) PrintFault) (why : PrintFault) → IsCrew workers → ran ≡ ran_of (report_of account)
     → Holds batch half_read half_written s (roles_of (length peers) (length peers + accept)) workers (report_of account)
     → AreMadeOf (λ half. half.origin) (λ half. half.origin) (origins_of peers (length peers + accept)) (report_of account) → AreOfOne (λ half. half.socket) (λ half. half.socket) (report_of account)
@@ -270,3 +281,38 @@ unwritten {A} batch s peers accept workers steps old mid new account ran after w
       remembered = subst (λ r. IfSome r (λ _. AppendsServedPart A batch s peers accept workers r old.written new.written)) (sym same.1)
           (written_part batch s peers accept workers (report_of account) ran remembered holds made one steps old.written new.written (sym is) cut.0);
     }
+
+-- what a run answered, as far as that is known
+pub record HasServed {A : Type 0} (batch : ℕ) (s : Config) (peers : List SocketAddr) (accept workers : ℕ) (steps : List (Step A))
+    (answer : Result (Account TcpReading TcpWriting A × Remembered A) (Halted A)) : Type 0 where
+  pub crew : IsCrew workers
+  pub bad_workers : IfErr answer (λ halted. (halted.fault ≡ BadWorkers) ↔ (¬ IsCrew workers))
+  pub fault : IfErr answer (λ halted. IsCrew workers → IsArrivingFault true (length peers + accept) workers halted.fault)
+  pub full : IfErr answer (λ halted. halted.fault ≡ HistoryFull → IfSome halted.history (λ history. length history.items ≡ s.numbers.steps))
+  pub tallied : IfErr answer (λ halted. IfSome halted.history (λ history. IfSome halted.links (λ tallies. AreTallies history.items (length peers + accept) tallies.items)))
+  pub ran : IfOk answer (λ done. done.1 ≡ ran_of (report_of done.0))
+  pub holds : IfOk answer (λ done. Holds batch half_read half_written s (roles_of (length peers) (length peers + accept)) workers (report_of done.0))
+  pub made : IfOk answer (λ done. AreMadeOf (λ half. half.origin) (λ half. half.origin) (origins_of peers (length peers + accept)) (report_of done.0))
+  pub one_socket : IfOk answer (λ done. AreOfOne (λ half. half.socket) (λ half. half.socket) (report_of done.0))
+  pub held : MatchResult answer (λ done. done.0.history.items ≡ steps) (λ halted. IfSome halted.history (λ history. history.items ≡ steps))
+  pub legal : IsLegal s (reverse steps)
+
+-- what is answered by a run that answered so, once its text was finished or couldn't be
+pub answered : {A : Type 0} (batch : ℕ) (s : Config) (peers : List SocketAddr) (accept workers : ℕ) (steps : List (Step A)) (old mid new : SinkState)
+    (answer : Result (Account TcpReading TcpWriting A × Remembered A) (Halted A)) → HasServed batch s peers accept workers steps answer
+    → (waiting : Result (Waiting A) PrintFault) → HasJournalled (header_text History s) steps old mid waiting
+    → (printed : Result ⊤ PrintFault) → HasFinishedRun answer mid new waiting printed
+    → (after : Result (Account TcpReading TcpWriting A × Remembered A) (ServeHalted A)) → IsAnsweredBy (λ done. done.0.history) (λ done. done.1) answer printed after
+    → IfErr after (λ halted. IfSome halted.links (λ tallies. IfOk answer (λ done. tallies.items ≡ tallies_of done.0.links.items)))
+    → IsJournalled batch s peers accept workers old new after
+answered batch s peers accept workers steps old mid new (Ok done) run waiting has (Ok x) finished after is tallies =
+    subst (λ r. IsJournalled batch s peers accept workers old new r) (sym is)
+    (all_written_of batch s peers accept workers steps old mid new done.0 done.1 waiting x run.crew run.ran run.holds run.made run.one_socket run.held has finished)
+answered batch s peers accept workers steps old mid new (Ok done) run waiting has (Err why) finished (Ok x) is tallies = absurd is
+answered batch s peers accept workers steps old mid new (Ok done) run waiting has (Err why) finished (Err after) is tallies =
+    unwritten batch s peers accept workers steps old mid new done.0 done.1 after waiting why run.crew run.ran run.holds run.made run.one_socket run.held has finished is.0 (is.1, is.2) tallies
+answered batch s peers accept workers steps old mid new (Err halted) run waiting has printed finished (Ok x) is tallies = absurd is
+answered batch s peers accept workers steps old mid new (Err halted) run waiting has printed finished (Err after) is tallies =
+    stopped_as batch s peers accept workers steps old mid new halted after
+    (record { crew = run.crew; bad_workers = run.bad_workers; fault = run.fault; full = run.full; tallied = run.tallied; has = run.held; legal = run.legal })
+    (is.1, is.2, is.3) waiting has (fault_by halted.fault waiting printed after.fault is.0 finished.1) finished.0

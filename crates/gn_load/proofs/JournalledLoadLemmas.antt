@@ -1,6 +1,6 @@
 -- A load whose history was written while its run went on.
-use Rattle.std.proofs.Common.{◌≡◌, ◌≤◌, ◌↔◌, ℕ, List, length, map, reverse, Option, None, Some, Result, Ok, Err, inl, inr, refl, subst, sym}
-use Rattle.std.specs.Prelude.{⊤, IfErr, IfSome, IsOk, MatchResult, OnOk}
+use Rattle.std.proofs.Common.{◌≡◌, ◌≤◌, ◌↔◌, ℕ, List, length, map, reverse, Option, None, Some, Result, Ok, Err, ap, false, inl, inr, refl, subst, sym}
+use Rattle.std.specs.Prelude.{⊤, IfErr, IfOk, IfSome, IsOk, MatchResult, OnOk}
 use Rattle.std.specs.Result.{IsErrAnd, IsOkAnd}
 use Rattle.std.specs.Io.KnownBytes.{Appends}
 use Rattle.std.specs.declared.alloc.Global.{Global}
@@ -35,7 +35,7 @@ use Rattle.gn_printed.specs.declared.ending.Waiting.{Waiting}
 use Rattle.gn_printed.specs.declared.printed.PrintFault.{PrintFault}
 use Rattle.gn_printed.specs.declared.printed.PrintFault.TheVariants as print
 use Rattle.gn_threads.specs.Courses.{AreStepsOf}
-use Rattle.gn_start.specs.Faults.{IsFaultOf}
+use Rattle.gn_start.specs.Faults.{IsFaultOf, IsWholeFault}
 use Rattle.gn_threads.specs.Headline.{AreMadeOf, Holds, LinksReadOwn}
 use Rattle.gn_start.specs.declared.fault.RunFault.{RunFault}
 use Rattle.gn_start.specs.declared.fault.RunFault.TheVariants.{BadWorkers, Listen, Call, Link, HistoryFull, NoMemory, Stage, Audit}
@@ -43,22 +43,12 @@ use Rattle.gn_threads.specs.declared.halted.Halted.{Halted}
 use Rattle.gn_load.specs.declared.fault.LoadFault.{LoadFault}
 use Rattle.gn_load.specs.declared.fault.LoadFault.TheVariants.{Run, Text}
 use Rattle.gn_load.specs.Faults.{IsLoadFault, IsRunFault}
-use Rattle.gn_load.specs.Journalled.{AppendsLegalPart, HasStoppedWriting}
-use Rattle.gn_load.specs.JournalledLoads.{AppendsStopped, HasStoppedAt, HasStoppedIn, HasStoppedOf, IsFaultAfter, IsJournalledLoad, of_print}
+use Rattle.gn_load.specs.Journalled.{AppendsLegalPart, HasFinishedRun, HasStoppedWriting}
+use Rattle.gn_load.specs.JournalledLoads.{AppendsStopped, HasStoppedAt, HasStoppedIn, HasStoppedOf, IsFaultAfter, IsJournalledLoad, IsLoadedBy, of_print}
 use Rattle.gn_load.specs.Loads.{AppendsLoad, load_of}
 use Rattle.gn_load.proofs.JournalLemmas.{all_finished, nothing_yet, part_finished, stopped_part, stopped_short}
-use Rattle.gn_load.proofs.LoadLemmas.{history_printed, is_read, of_known}
+use Rattle.gn_load.proofs.LoadLemmas.{halves_made, history_printed, is_read, none_split, of_known}
 use Rattle.gn_load.proofs.ServedLemmas.{kept}
-
--- an answered run had these steps
-pub steps_ok : {Rd W A : Type 0} (r : Result (Account Rd W A) (Halted A)) (account : Account Rd W A) (steps : List (Step A)) → r ≡ Ok account → AreStepsOf r steps
-    → account.history.items ≡ steps
-steps_ok r account steps is held = subst (λ q. AreStepsOf q steps) is held
-
--- and so had one that stopped
-pub steps_err : {Rd W A : Type 0} (r : Result (Account Rd W A) (Halted A)) (halted : Halted A) (steps : List (Step A)) → r ≡ Err halted → AreStepsOf r steps
-    → IfSome halted.history (λ history. history.items ≡ steps)
-steps_err r halted steps is held = subst (λ q. AreStepsOf q steps) is held
 
 -- what is answered where no run began, since memory ran out
 pub unbegun_load : (batch : ℕ) (s : Config) (links : List Memory) (workers : ℕ) (sink : SinkState) (answer : Result ⊤ LoadFault) → IsErrAnd answer (λ e. e ≡ Text replay.NoMemory)
@@ -67,12 +57,6 @@ unbegun_load batch s links workers sink (Ok x) is = absurd is
 unbegun_load batch s links workers sink (Err e) is =
     subst (λ (f : LoadFault). IsJournalledLoad batch s links workers sink sink (Err f)) (sym is)
     (record { written = tt; unfailed = tt; stopped = (None, nothing_yet Global s sink.written); fault = tt })
-
--- what is answered where a fault was handed on
-pub handed_load : (batch : ℕ) (s : Config) (links : List Memory) (workers : ℕ) (old new : SinkState) (answer : Result ⊤ LoadFault) (fault : LoadFault) → IsErrAnd answer (λ e. e ≡ fault)
-    → IsJournalledLoad batch s links workers old new (Err fault) → IsJournalledLoad batch s links workers old new answer
-handed_load batch s links workers old new (Ok x) fault is has = absurd is
-handed_load batch s links workers old new (Err e) fault is has = subst (λ (f : LoadFault). IsJournalledLoad batch s links workers old new (Err f)) (sym is) has
 
 -- or since there are too few workers, or too many
 pub no_crew : (batch : ℕ) (s : Config) (links : List Memory) (workers : ℕ) (sink : SinkState) → (BadWorkers ≡ BadWorkers) ↔ (¬ IsCrew workers)
@@ -88,7 +72,7 @@ unwritten_load batch s links workers old new print.NoMemory history part cause =
 module _ (batch : ℕ) (s : Config) (links : List Memory) (workers : ℕ) (steps : List (Step Global)) (old mid new : SinkState) (waiting : Result (Waiting Global) PrintFault)
     (has : HasJournalled (header_text History s) steps old mid waiting) where
   -- what is answered of a run with an account whose text was written
-  pub all_loaded : (account : Account MemoryReading MemoryWriting Global) (done : ⊤) → Holds batch half_read half_written s (map (λ link. link.role) links) workers (report_of account)
+  all_loaded : (account : Account MemoryReading MemoryWriting Global) (done : ⊤) → Holds batch half_read half_written s (map (λ link. link.role) links) workers (report_of account)
       → LinksReadOwn half_read (map source_of links) (report_of account)
       → AreMadeOf (λ (half : MemoryReading). half.link) (λ (half : MemoryWriting). half.link) links (report_of account) → IsCrew workers
       → account.history.items ≡ steps → HasFinished mid new waiting (Ok done) → IsJournalledLoad batch s links workers old new (Ok tt)
@@ -104,7 +88,7 @@ module _ (batch : ℕ) (s : Config) (links : List Memory) (workers : ℕ) (steps
       }
 
   -- what is answered of one whose text wasn't
-  pub cut_load : (account : Account MemoryReading MemoryWriting Global) (why : PrintFault) → IsLegal s (reverse account.history.items)
+  cut_load : (account : Account MemoryReading MemoryWriting Global) (why : PrintFault) → IsLegal s (reverse account.history.items)
       → account.history.items ≡ steps → HasFinished mid new waiting (Err why) → IsJournalledLoad batch s links workers old new (Err (of_print why))
   cut_load account why legal is finished =
       let cut = part_finished s steps old mid new waiting why has finished in
@@ -153,13 +137,60 @@ module _ (batch : ℕ) (s : Config) (links : List Memory) (workers : ℕ) (steps
       unwritten_load batch s links workers old new why halted.history short.0 short.1
 
   -- by what waited
-  pub stopped_as : (waiting : Result (Waiting Global) PrintFault) (fault : LoadFault) → HasJournalled (header_text History s) steps old mid waiting
+  stopped_as : (waiting : Result (Waiting Global) PrintFault) (fault : LoadFault) → HasJournalled (header_text History s) steps old mid waiting
       → MatchResult waiting (λ _. fault ≡ Run halted.fault) (λ why. fault ≡ of_print why) → HasStoppedWriting halted.history mid new waiting
       → IsJournalledLoad batch s links workers old new (Err fault)
   stopped_as (Ok waiting) fault has is wrote =
       subst (λ (f : LoadFault). IsJournalledLoad batch s links workers old new (Err f)) (sym is) (stopped_whole waiting has wrote)
   stopped_as (Err why) fault has is wrote =
       subst (λ (f : LoadFault). IsJournalledLoad batch s links workers old new (Err f)) (sym is) (stopped_cut why has wrote)
+
+-- the fault of a load whose run stopped at this one, and whose text was written or couldn't be
+abbrev fault_by : RunFault → Result ⊤ PrintFault → LoadFault
+fault_by fault (Ok x) = Run fault
+fault_by fault (Err why) = of_print why
+
+-- what a run answered, as far as that is known
+pub record HasLoaded (batch : ℕ) (s : Config) (links : List Memory) (workers : ℕ) (steps : List (Step Global))
+    (answer : Result (Account MemoryReading MemoryWriting Global) (Halted Global)) : Type 0 where
+  pub crew : IsCrew workers
+  pub bad_workers : IfErr answer (λ halted. (halted.fault ≡ BadWorkers) ↔ (¬ IsCrew workers))
+  pub fault : IfErr answer (λ halted. IsCrew workers → IsWholeFault (map (λ (l : Memory). false) links) workers halted.fault)
+  pub full : IfErr answer (λ halted. halted.fault ≡ HistoryFull → IfSome halted.history (λ history. length history.items ≡ s.numbers.steps))
+  pub holds : IfOk answer (λ account. Holds batch half_read half_written s (map (λ link. link.role) links) workers (report_of account))
+  pub bytes : IfOk answer (λ account. LinksReadOwn half_read (map source_of links) (report_of account))
+  pub made : IfOk answer (λ account. AreMadeOf (λ (half : MemoryReading). half.link) (λ (half : MemoryWriting). half.link) (map (λ (l : Memory). l) links) (report_of account))
+  pub held : AreStepsOf answer steps
+  pub legal : IsLegal s (reverse steps)
+
+-- the fault of a load whose run stopped, by what waited of its text
+loaded_by : (fault : RunFault) (waiting : Result (Waiting Global) PrintFault) (printed : Result ⊤ PrintFault) → MatchResult waiting (λ _. printed ≡ Ok tt) (λ why. printed ≡ Err why)
+    → MatchResult waiting (λ _. fault_by fault printed ≡ Run fault) (λ why. fault_by fault printed ≡ of_print why)
+loaded_by fault (Ok waiting) printed by = ap (λ p. fault_by fault p) by
+loaded_by fault (Err why) printed by = ap (λ p. fault_by fault p) by
+
+-- what is answered by a load whose run answered so, once its text was finished or couldn't be
+pub loaded : (batch : ℕ) (s : Config) (links : List Memory) (workers : ℕ) (steps : List (Step Global)) (old mid new : SinkState)
+    (answer : Result (Account MemoryReading MemoryWriting Global) (Halted Global)) → HasLoaded batch s links workers steps answer
+    → (waiting : Result (Waiting Global) PrintFault) → HasJournalled (header_text History s) steps old mid waiting
+    → (printed : Result ⊤ PrintFault) → HasFinishedRun answer mid new waiting printed
+    → (after : Result ⊤ LoadFault) → IsLoadedBy answer printed after → IsJournalledLoad batch s links workers old new after
+loaded batch s links workers steps old mid new (Ok account) run waiting has (Ok x) finished after is =
+    subst (λ (r : Result ⊤ LoadFault). IsJournalledLoad batch s links workers old new r) (sym is)
+    (all_loaded batch s links workers steps old mid new waiting has account x run.holds run.bytes (halves_made links (report_of account) run.made) run.crew run.held finished)
+loaded batch s links workers steps old mid new (Ok account) run waiting has (Err why) finished after is =
+    subst (λ (r : Result ⊤ LoadFault). IsJournalledLoad batch s links workers old new r) (sym is)
+    (cut_load batch s links workers steps old mid new waiting has account why run.holds.legal run.held finished)
+loaded batch s links workers steps old mid new (Err halted) run waiting has (Ok x) finished after is =
+    subst (λ (r : Result ⊤ LoadFault). IsJournalledLoad batch s links workers old new r) (sym is)
+    (stopped_as batch s links workers steps old mid new halted
+    (record { crew = run.crew; bad_workers = run.bad_workers; fault = λ crew. none_split links workers halted.fault (run.fault crew); full = run.full; has = run.held; legal = run.legal })
+    waiting (Run halted.fault) has (loaded_by halted.fault waiting (Ok x) finished.1) finished.0)
+loaded batch s links workers steps old mid new (Err halted) run waiting has (Err why) finished after is =
+    subst (λ (r : Result ⊤ LoadFault). IsJournalledLoad batch s links workers old new r) (sym is)
+    (stopped_as batch s links workers steps old mid new halted
+    (record { crew = run.crew; bad_workers = run.bad_workers; fault = λ crew. none_split links workers halted.fault (run.fault crew); full = run.full; has = run.held; legal = run.legal })
+    waiting (of_print why) has (loaded_by halted.fault waiting (Err why) finished.1) finished.0)
 
 -- what follows of an answer
 at_ok : {P Q : Type 0} (r : Result ⊤ LoadFault) → (P → Q) → OnOk r P → OnOk r Q

@@ -96,6 +96,11 @@ abbrev pub IsJournalledAfter :
 IsJournalledAfter again s peers workers old new answer =
     IsJournalledBy (λ account. IsResumedAccount again s peers workers account) s workers old new answer
 
+-- what holds of the account of a run that went on with steps of before, where there were any
+abbrev pub IsPastAccount : {A : Type 0} → Bool → Bool → Bool → ℕ → Config → List SocketAddr → ℕ → OpenAccount TcpReading TcpWriting A → Type 0
+IsPastAccount recalls again pings batch s peers workers account =
+    IsResumedAccount again s peers workers account × (recalls ≡ false → IsAnyAccount again pings batch s peers workers account)
+
 -- what holds of the account of a run that takes any number of callers, and went on with steps of before or not
 abbrev pub holds_any : {A : Type 0} → Bool → Bool → Bool → ℕ → Config → List SocketAddr → ℕ → OpenAccount TcpReading TcpWriting A → Type 0
 holds_any false again pings batch s peers workers account = IsAnyAccount again pings batch s peers workers account

@@ -1,7 +1,8 @@
 -- A run over TCP whose history is written while it goes on.
-use Rattle.std.specs.Prelude.{◌≡◌, ◌↔◌, ◌⊎◌, ◌+◌, ℕ, ⊤, List, [], ◌++◌, length, reverse, IfErr, IfOk, IfSome, OnOk, IsSome, Option, None, Some, Result, Ok, Err}
+use Rattle.std.specs.Prelude.{◌≡◌, ◌↔◌, ◌⊎◌, ◌+◌, ℕ, ⊤, List, [], ◌++◌, length, reverse, IfErr, IfOk, IfSome, MatchResult, OnOk, IsSome, Option, None, Some, Result, Ok, Err}
 use Rattle.std.specs.declared.net.socket_addr.SocketAddr.{SocketAddr}
 use Rattle.std.specs.Io.KnownBytes.{Appends}
+use Rattle.std.specs.Result.{IsErrAnd}
 use Rattle.rtrb.specs.Ring.{IsPair, received, sent}
 use Rattle.gn_rules.specs.Answer.{IsLegal}
 use Rattle.gn_rules.specs.Limits.{IsCrew}
@@ -24,6 +25,8 @@ use Rattle.gn_service.specs.Ran.{Remembered, ran_of}
 use Rattle.gn_sockets.specs.TcpHalves.{TcpReading, TcpWriting, half_read, half_written}
 use Rattle.gn_threads.specs.Courses.{AreTallies}
 use Rattle.gn_threads.specs.Headline.{AreMadeOf, AreOfOne, Holds}
+use Rattle.gn_threads.specs.declared.halted.Halted.{Halted}
+use Rattle.gn_start.specs.declared.fault.RunFault.{RunFault}
 use Rattle.gn_start.specs.declared.fault.RunFault.TheVariants.{BadWorkers, HistoryFull, NoMemory}
 use Rattle.gn_load.specs.declared.fresh.Fresh.{Fresh}
 use Rattle.gn_load.specs.declared.serve_fault.ServeFault.{ServeFault}
@@ -54,10 +57,33 @@ HasStoppedWriting history old new (Ok waiting) =
     (new ≡ old) ⊎ (IsSome history × (printed : Result ⊤ PrintFault) × HasFinished old new (Ok waiting) printed)
 HasStoppedWriting history old new (Err fault) = new ≡ old
 
+-- what is left of the text of a run that answered so was written to its end, or a prefix of that, for a fault; of one that stopped, what
+-- stands, and the fault is that of its text until then
+abbrev pub HasFinishedRun : {T A : Type 0} → Result T (Halted A) → SinkState → SinkState → Result (Waiting A) PrintFault → Result ⊤ PrintFault → Type 0
+HasFinishedRun (Ok done) old new waiting printed = HasFinished old new waiting printed
+HasFinishedRun (Err halted) old new waiting printed =
+    HasStoppedWriting halted.history old new waiting × MatchResult waiting (λ _. printed ≡ Ok tt) (λ why. printed ≡ Err why)
+
 -- the fault of a serve whose text couldn't be written for this
 abbrev pub of_print : PrintFault → ServeFault
 of_print print.Write = Write
 of_print print.NoMemory = Run NoMemory
+
+-- the fault of a serve whose run stopped at this one, and whose text was written or couldn't be
+abbrev pub fault_after : RunFault → Result ⊤ PrintFault → ServeFault
+fault_after fault (Ok x) = Run fault
+fault_after fault (Err why) = of_print why
+
+-- a serve answers so whose run answered so, and whose text was written or couldn't be: what its run did, where the text is whole; what was
+-- done knows a history and what is remembered
+abbrev pub IsAnsweredBy : {D A : Type 0} → (D → Unkept (Step A)) → (D → Remembered A) → Result D (Halted A) → Result ⊤ PrintFault
+    → Result D (ServeHalted A) → Type 0
+IsAnsweredBy history ran (Ok done) (Ok x) answer = answer ≡ Ok done
+IsAnsweredBy history ran (Ok done) (Err why) answer =
+    IsErrAnd answer (λ after. (after.fault ≡ of_print why) × (after.history ≡ Some (history done)) × (after.ran ≡ Some (ran done)))
+IsAnsweredBy history ran (Err halted) printed answer =
+    IsErrAnd answer (λ after. (after.fault ≡ fault_after halted.fault printed)
+    × (after.history ≡ halted.history) × (after.links ≡ halted.links) × (after.ran ≡ None))
 
 -- what such a run answers, whose writers write at most so many packets at once, and what was written by then
 pub record IsJournalled {A : Type 0} (batch : ℕ) (s : Config) (peers : List SocketAddr) (accept workers : ℕ) (old new : SinkState)

@@ -1,5 +1,5 @@
 -- A load whose history is written while its run goes on.
-use Rattle.std.specs.Prelude.{◌≡◌, ◌⊎◌, ℕ, ⊤, List, length, IfErr, IfSome, OnOk, Option, Result, Ok}
+use Rattle.std.specs.Prelude.{◌≡◌, ◌⊎◌, ℕ, ⊤, List, length, IfErr, IfSome, OnOk, Option, Result, Ok, Err}
 use Rattle.std.specs.Result.{IsOkAnd}
 use Rattle.std.specs.declared.alloc.Global.{Global}
 use Rattle.std.specs.Io.KnownBytes.{Keeps}
@@ -13,6 +13,7 @@ use Rattle.gn_printed.specs.declared.printed.PrintFault.{PrintFault}
 use Rattle.gn_printed.specs.declared.printed.PrintFault.TheVariants as print
 use Rattle.gn_text.specs.Settings.{settings_of}
 use Rattle.gn_start.specs.declared.fault.RunFault.{RunFault}
+use Rattle.gn_threads.specs.declared.halted.Halted.{Halted}
 use Rattle.gn_start.specs.declared.fault.RunFault.TheVariants.{BadWorkers, HistoryFull}
 use Rattle.gn_load.specs.declared.fault.LoadFault.{LoadFault}
 use Rattle.gn_load.specs.declared.fault.LoadFault.TheVariants.{Run, Text}
@@ -24,6 +25,12 @@ use Rattle.gn_load.specs.Loads.{AppendsLoad, load_of}
 abbrev pub of_print : PrintFault → LoadFault
 of_print print.Write = Text replay.Write
 of_print print.NoMemory = Text replay.NoMemory
+
+-- a load answers so whose run answered so, and whose text was written, or couldn't be for this
+abbrev pub IsLoadedBy : {T : Type 0} → Result T (Halted Global) → Result ⊤ PrintFault → Result ⊤ LoadFault → Type 0
+IsLoadedBy (Ok done) (Ok x) answer = answer ≡ Ok tt
+IsLoadedBy (Err halted) (Ok x) answer = answer ≡ Err (Run halted.fault)
+IsLoadedBy run (Err why) answer = answer ≡ Err (of_print why)
 
 -- known bytes grew by a prefix of the text of a history that is legal by this configuration, and has as many steps as that allows where
 -- this fault is a full history and the history stands; by nothing where no run began

@@ -1,8 +1,10 @@
 //! A run that hasn't begun, whose history is to be written while it goes on.
 
-ghost use Rattle.std.specs.Prelude.{◌≡◌, [], Some, IfOk};
+ghost use Rattle.std.specs.Prelude.{◌≡◌, ◌↔◌, [], Some, IfErr, IfOk};
 ghost use Rattle.rtrb.specs.Ring.{received};
 ghost use Rattle.gn_journal.specs.Rings.{name_of};
+ghost use Rattle.gn_rules.specs.Limits.{IsCrew};
+ghost use Rattle.gn_start.specs.declared.fault.RunFault.TheVariants.{BadWorkers, NoMemory};
 ghost use Rattle.gn_text.specs.Header.{header_text};
 ghost use Rattle.gn_numbers.specs.declared.titles.Text.TheVariants.{History};
 ghost use Rattle.gn_load.specs.Journalled.{IsFresh};
@@ -10,8 +12,9 @@ ghost use Rattle.gn_load.specs.Journalled.{IsFresh};
 use gn_io::Block;
 use gn_journal::{Journal, Naming};
 use gn_replay::history_heading;
-use gn_rules::{Config, Step};
+use gn_rules::{Config, MOST_WORKERS, Step};
 use gn_scribe::Scribe;
+use gn_service::RunFault;
 use gn_table_router::{Configuring, TableRouter};
 use rtrb::{Consumer, Producer, RingBuffer};
 use std::alloc::{AllocError, Global};
@@ -39,6 +42,18 @@ impl Fresh {
             producer,
             consumer,
         })
+    }
+
+    /// Those of a run of so many workers, 1 to 64. An `Err` is `BadWorkers`, or out of memory.
+    pub fn for_crew(alloc: Global, config: &Config, workers: u32) -> Result<Fresh, RunFault>
+        ensures fresh { IfOk result (λ fresh. IsFresh config.now fresh × IsCrew workers) }
+        ensures bad_workers { IfErr result (λ fault. (fault ≡ BadWorkers) ↔ (¬ IsCrew workers)) }
+        ensures fault { IfErr result (λ fault. IsCrew workers → fault ≡ NoMemory) }
+    {
+        if workers == 0 || workers > MOST_WORKERS {
+            return Err(RunFault::BadWorkers);
+        }
+        Ok(Fresh::of(alloc, config)?)
     }
 
     /// The router of the run and the scribe of its history, over the ring that `N` names. An `Err` is out of memory.

@@ -1,20 +1,19 @@
 //! A run over TCP whose history is written while it goes on.
 
-ghost use Rattle.std.specs.Prelude.{◌≡◌, ◌+◌, ◌≤◌, None, Some, length, IfSome, MatchResult};
+ghost use Rattle.std.specs.Prelude.{◌≡◌, ◌+◌, ◌≤◌, None, Some, length, IfErr, IfOk, IfSome};
 ghost use Rattle.gn_rules.specs.Limits.{IsCrew, most_links};
 ghost use Rattle.gn_journal.specs.Rings.{name_of};
 ghost use Rattle.gn_service.specs.Tallies.{tallies_of};
 ghost use Rattle.gn_load.specs.declared.serve_fault.ServeFault.TheVariants.{Run};
-ghost use Rattle.gn_load.specs.Journalled.{HasStoppedWriting, IsFresh, IsJournalled, of_print};
+ghost use Rattle.gn_load.specs.Journalled.{IsAnsweredBy, IsFresh, IsJournalled, fault_after, of_print};
 
 use crate::fresh::Fresh;
 use crate::serve_fault::ServeFault;
 use crate::serve_halted::ServeHalted;
-use crate::writing::{Begun, Writing, write_stopped};
+use crate::writing::{Begun, Writing, finish_run};
 use gn_io::Sink;
 use gn_journal::{Journal, Naming};
-use gn_printed::{PrintFault, Waiting, finish_history};
-use gn_rules::MOST_WORKERS;
+use gn_printed::PrintFault;
 use gn_service::{
     Account, Halted, Host, Ran, Routing, RunFault, Serve, TcpReader, TcpWriter, Watch, serve_by,
     tallies_of,
@@ -45,34 +44,30 @@ pub(crate) fn of_print(fault: PrintFault) -> ServeFault
     }
 }
 
-/// The fault of a serve whose run stopped at this one, by what waits of its text.
-fn fault_of<A: Allocator>(fault: RunFault, waiting: &Result<Waiting<A>, PrintFault>) -> ServeFault
-    ensures { MatchResult waiting.now (λ _. result ≡ Run fault) (λ why. result ≡ of_print why) }
+/// The fault of a serve whose run stopped at this one, and whose text was written while it went on, or couldn't be.
+fn fault_after(fault: RunFault, printed: Result<(), PrintFault>) -> ServeFault
+    ensures { result ≡ fault_after fault printed }
 {
-    match waiting {
-        Ok(_) => ServeFault::Run(fault),
-        Err(why) => of_print(*why),
+    match printed {
+        Ok(()) => ServeFault::Run(fault),
+        Err(why) => of_print(why),
     }
 }
 
-/// Writes what is left of the text of a run that stopped, where its history stands and has a step. Its fault is that of the run, unless
-/// its text couldn't be written while it went on.
-pub(crate) fn finish_halted<A: Allocator, W: Sink>(
+/// The run that stopped so. Its fault is its own, unless its text couldn't be written while it went on.
+pub(crate) fn stopped<A: Allocator>(
     halted: Halted<A>,
-    waiting: Result<Waiting<A>, PrintFault>,
-    sink: &mut W,
+    printed: Result<(), PrintFault>,
 ) -> ServeHalted<A>
+    ensures fault { result.fault ≡ fault_after halted.fault printed }
     ensures same { (result.history ≡ halted.history) × (result.links ≡ halted.links) × (result.ran ≡ None) }
-    ensures fault { MatchResult waiting (λ _. result.fault ≡ Run halted.fault) (λ why. result.fault ≡ of_print why) }
-    ensures written { HasStoppedWriting halted.history (W.state sink.old) (W.state sink.new) waiting }
 {
     let Halted {
         fault,
         history,
         links,
     } = halted;
-    let fault = fault_of(fault, &waiting);
-    write_stopped(&history, waiting, sink);
+    let fault = fault_after(fault, printed);
     ServeHalted {
         fault,
         history,
@@ -108,6 +103,25 @@ fn unwritten<'s, A: Allocator + Copy>(
     }
 }
 
+/// What is answered by a run that answered so, whose text was written whole, or couldn't be for this.
+fn answered<'s, A: Allocator + Copy>(
+    alloc: A,
+    answer: Result<(Account<TcpReader<'s>, TcpWriter, A>, Ran<A>), Halted<A>>,
+    printed: Result<(), PrintFault>,
+) -> Result<(Account<TcpReader<'s>, TcpWriter, A>, Ran<A>), ServeHalted<A>>
+    ensures answered { IsAnsweredBy (λ done. done.0.history) (λ done. done.1) answer.entry printed result }
+    ensures tallies { IfErr result (λ halted. IfSome halted.links (λ tallies.
+        IfOk answer.entry (λ done. tallies.items ≡ tallies_of done.0.links.items))) }
+{
+    match answer {
+        Ok((account, ran)) => match printed {
+            Ok(()) => Ok((account, ran)),
+            Err(why) => Err(unwritten(alloc, account, ran, why)),
+        },
+        Err(halted) => Err(stopped(halted, printed)),
+    }
+}
+
 /// Runs a router as `serve_on` does, and writes its history, which `audit` reads, while the run goes on: a step that was made is written
 /// once nobody makes another, or a block is full. Nobody keeps the steps: the
 /// account comes back with what is remembered of the run. At a fault what was written is a prefix of the history; all of it, where that
@@ -122,13 +136,10 @@ pub fn serve_journalled<'s, R: Host, G: Watch + Sync, W: Sink + Send>(
     ensures { let s = serve.now in
         IsJournalled s.batch s.config.now s.peers.now s.accept s.workers (W.state sink.old) (W.state sink.new) result }
 {
-    if serve.workers == 0 || serve.workers > MOST_WORKERS {
-        return Err(unbegun(RunFault::BadWorkers));
+    match Fresh::for_crew(alloc, serve.config, serve.workers) {
+        Ok(fresh) => serve_named::<Brand, R, G, W>(rt, alloc, serve, fresh, sink),
+        Err(fault) => Err(unbegun(fault)),
     }
-    let Ok(fresh) = Fresh::of(alloc, serve.config) else {
-        return Err(unbegun(RunFault::NoMemory));
-    };
-    serve_named::<Brand, R, G, W>(rt, alloc, serve, fresh, sink)
 }
 
 /// The same over the ring that `N` names.
@@ -169,11 +180,6 @@ fn serve_named<
     >(rt, alloc, serve, routing);
     serve.watch.end();
     let Begun { sink, waiting } = begun;
-    match answer {
-        Ok((account, ran)) => match finish_history(waiting, sink) {
-            Ok(()) => Ok((account, ran)),
-            Err(why) => Err(unwritten(alloc, account, ran, why)),
-        },
-        Err(halted) => Err(finish_halted(halted, waiting, sink)),
-    }
+    let printed = finish_run(&answer, waiting, sink);
+    answered(alloc, answer, printed)
 }

@@ -3,20 +3,19 @@
 ghost use Rattle.std.specs.Prelude.{◌≡◌, false, is_some, Some};
 ghost use Rattle.gn_rules.specs.Limits.{IsCrew};
 ghost use Rattle.gn_journal.specs.Rings.{name_of};
-ghost use Rattle.gn_load.specs.Any.{IsJournalledAfter, IsJournalledAny};
-ghost use Rattle.gn_load.specs.Journalled.{IsFresh, of_print};
+ghost use Rattle.gn_load.specs.Any.{IsJournalledAfter, IsJournalledAny, IsJournalledBy, IsPastAccount};
+ghost use Rattle.gn_load.specs.Journalled.{IsAnsweredBy, IsFresh, of_print};
 
 use crate::fresh::Fresh;
-use crate::journalled::{finish_halted, of_print, unbegun};
+use crate::journalled::{of_print, stopped, unbegun};
 use crate::serve_halted::ServeHalted;
-use crate::writing::{Begun, Writing};
+use crate::writing::{Begun, Writing, finish_run};
 use gn_io::Sink;
 use gn_journal::{Journal, Naming};
-use gn_printed::{PrintFault, finish_history};
-use gn_rules::MOST_WORKERS;
+use gn_printed::PrintFault;
 use gn_service::{
-    Any, Host, NoPast, OpenAccount, Parting, Past, Ran, Routing, RunFault, Serve, TcpReader,
-    TcpWriter, Watch, serve_past,
+    Any, Halted, Host, NoPast, OpenAccount, Parting, Past, Ran, Routing, RunFault, Serve,
+    TcpReader, TcpWriter, Watch, serve_past,
 };
 use gn_table_router::{Configuring, TableRouter};
 use std::alloc::{Allocator, Global};
@@ -43,6 +42,22 @@ fn unwritten<'s, A: Allocator>(
         history: Some(history),
         links: None,
         ran: Some(ran),
+    }
+}
+
+/// What is answered by a run that answered so, whose text was written whole, or couldn't be for this.
+fn answered<'s, A: Allocator>(
+    answer: Result<(OpenAccount<TcpReader<'s>, TcpWriter, A>, Ran<A>), Halted<A>>,
+    printed: Result<(), PrintFault>,
+) -> Result<(OpenAccount<TcpReader<'s>, TcpWriter, A>, Ran<A>), ServeHalted<A>>
+    ensures { IsAnsweredBy (λ done. done.0.history) (λ done. done.1) answer.entry printed result }
+{
+    match answer {
+        Ok((account, ran)) => match printed {
+            Ok(()) => Ok((account, ran)),
+            Err(why) => Err(unwritten(account, ran, why)),
+        },
+        Err(halted) => Err(stopped(halted, printed)),
     }
 }
 
@@ -88,13 +103,12 @@ pub fn serve_past_journalled<
         IsJournalledAny s.accept.again (is_some s.accept.pings) s.batch s.config.now s.peers.now s.workers
         (W.state sink.old) (W.state sink.new) result }
 {
-    if serve.workers == 0 || serve.workers > MOST_WORKERS {
-        return Err(unbegun(RunFault::BadWorkers));
+    match Fresh::for_crew(alloc, serve.config, serve.workers) {
+        Ok(fresh) => {
+            serve_past_named::<Brand, R, G, T, P, W>(rt, alloc, serve, past, fresh, sink)
+        }
+        Err(fault) => Err(unbegun(fault)),
     }
-    let Ok(fresh) = Fresh::of(alloc, serve.config) else {
-        return Err(unbegun(RunFault::NoMemory));
-    };
-    serve_past_named::<Brand, R, G, T, P, W>(rt, alloc, serve, past, fresh, sink)
 }
 
 /// The same over the ring that `N` names.
@@ -117,12 +131,10 @@ fn serve_past_named<
     requires named { (N.ring ≡ Some (name_of fresh.producer.end)) × (N.config ≡ Some serve.now.config.now) }
     requires fresh { IsFresh serve.now.config.now fresh }
     requires few { IsCrew serve.now.workers }
-    ensures resumed { let s = serve.now in
-        IsJournalledAfter s.accept.again s.config.now s.peers.now s.workers
-        (W.state sink.old) (W.state sink.new) result }
-    ensures any { let s = serve.now in P.recalls past ≡ false →
-        IsJournalledAny s.accept.again (is_some s.accept.pings) s.batch s.config.now s.peers.now s.workers
-        (W.state sink.old) (W.state sink.new) result }
+    ensures { let s = serve.now in
+        IsJournalledBy (λ account. IsPastAccount (P.recalls past) s.accept.again (is_some s.accept.pings) s.batch
+        s.config.now s.peers.now s.workers account)
+        s.config.now s.workers (W.state sink.old) (W.state sink.new) result }
 {
     let Ok((core, scribe)) = fresh.over::<N>(alloc, serve.config) else {
         return Err(unbegun(RunFault::NoMemory));
@@ -144,11 +156,6 @@ fn serve_past_named<
     >(rt, alloc, serve, routing, past);
     serve.watch.end();
     let Begun { sink, waiting } = begun;
-    match answer {
-        Ok((account, ran)) => match finish_history(waiting, sink) {
-            Ok(()) => Ok((account, ran)),
-            Err(why) => Err(unwritten(account, ran, why)),
-        },
-        Err(halted) => Err(finish_halted(halted, waiting, sink)),
-    }
+    let printed = finish_run(&answer, waiting, sink);
+    answered(answer, printed)
 }

@@ -1,26 +1,25 @@
 //! A capture, loaded: its links are run, and the history of the run is written while it goes on.
 
-ghost use Rattle.std.specs.Prelude.{◌≡◌, ◌≤◌, Some, length, IfErr, IfSome, IsOk, MatchResult, OnOk};
+ghost use Rattle.std.specs.Prelude.{◌≡◌, ◌≤◌, Some, length, IfErr, IfSome, IsOk, OnOk};
 ghost use Rattle.std.specs.declared.alloc.Global.{Global as Heap};
 ghost use Rattle.gn_rules.specs.Limits.{IsCrew, most_links};
 ghost use Rattle.gn_journal.specs.Rings.{name_of};
 ghost use Rattle.gn_io.specs.Input.{input_limit};
 ghost use Rattle.gn_io.specs.Streams.{NoneFailed, streams, text_between};
-ghost use Rattle.gn_load.specs.declared.fault.LoadFault.TheVariants.{Run};
 ghost use Rattle.gn_load.specs.Faults.{IsLoadFault};
 ghost use Rattle.gn_load.specs.Journalled.{IsFresh};
-ghost use Rattle.gn_load.specs.JournalledLoads.{HasStoppedAt, IsJournalledLoad, of_print};
+ghost use Rattle.gn_load.specs.JournalledLoads.{HasStoppedAt, IsJournalledLoad, IsLoadedBy};
 ghost use Rattle.gn_load.specs.Loads.{AppendsLoad, load_of};
 
 use crate::fault::LoadFault;
 use crate::fresh::Fresh;
 use crate::loads::read_load;
-use crate::writing::{Begun, Writing, write_stopped};
+use crate::writing::{Begun, Writing, finish_run};
 use gn_io::{Sink, Source, read_input};
 use gn_journal::Naming;
-use gn_printed::{PrintFault, Waiting, finish_history};
+use gn_printed::PrintFault;
 use gn_rules::MOST_WORKERS;
-use gn_service::{Asked, Batch, MemoryLink, Routing, RunFault, Watch, run_by};
+use gn_service::{Asked, Batch, Halted, MemoryLink, Routing, RunFault, Watch, run_by};
 use gn_table_router::Configuring;
 use std::alloc::Global;
 use std::marker::{Brand, PhantomData};
@@ -42,13 +41,17 @@ struct Load<'a, G> {
     links: Vec<MemoryLink>,
 }
 
-/// The fault of a load whose run stopped at this one, by what waits of its text.
-fn fault_of(fault: RunFault, waiting: &Result<Waiting, PrintFault>) -> LoadFault
-    ensures { MatchResult waiting.now (λ _. result ≡ Run fault) (λ why. result ≡ of_print why) }
+/// What a load answers whose run answered so, and whose text was written, or couldn't be for this.
+fn load_answer<T>(
+    answer: &Result<T, Halted>,
+    printed: Result<(), PrintFault>,
+) -> Result<(), LoadFault>
+    ensures { IsLoadedBy answer.now printed result }
 {
-    match waiting {
-        Ok(_) => LoadFault::Run(fault),
-        Err(why) => LoadFault::from(*why),
+    match (printed, answer) {
+        (Ok(()), Ok(_)) => Ok(()),
+        (Ok(()), Err(halted)) => Err(LoadFault::Run(halted.fault)),
+        (Err(why), _) => Err(LoadFault::from(why)),
     }
 }
 
@@ -133,18 +136,8 @@ fn load_named<
     let (answer, begun) = run_by::<_, Writing<W, N>, _, _, _, R>(rt, alloc, &asked, links, routing);
     watch.end();
     let Begun { sink, waiting } = begun;
-    match answer {
-        Ok(account) => {
-            let finished = finish_history(waiting, sink);
-            watch.leave(account);
-            finished?;
-            Ok(())
-        }
-        Err(halted) => {
-            let fault = fault_of(halted.fault, &waiting);
-            write_stopped(&halted.history, waiting, sink);
-            watch.leave(halted);
-            Err(fault)
-        }
-    }
+    let printed = finish_run(&answer, waiting, sink);
+    let loaded = load_answer(&answer, printed);
+    watch.leave(answer);
+    loaded
 }

@@ -1,12 +1,12 @@
 //! A history that is written while its run goes on.
 
-ghost use Rattle.std.specs.Prelude.{◌≡◌, [], Some, reverse};
+ghost use Rattle.std.specs.Prelude.{◌≡◌, [], Err, MatchResult, Ok, Some, reverse};
 ghost use Rattle.rtrb.specs.Ring.{received};
 ghost use Rattle.gn_journal.specs.Rings.{name_of};
 ghost use Rattle.gn_rules.specs.declared.config.Config.{Config};
 ghost use Rattle.gn_rules.specs.Answer.{IsLegal};
 ghost use Rattle.gn_scribe.specs.Written.{HasEnded, HasFollowed};
-ghost use Rattle.gn_load.specs.Journalled.{HasStoppedWriting};
+ghost use Rattle.gn_load.specs.Journalled.{HasFinishedRun, HasStoppedWriting};
 
 use gn_io::Sink;
 use gn_journal::{Journal, Naming};
@@ -15,6 +15,7 @@ use gn_report::Unkept;
 use gn_room::{Following, Room};
 use gn_rules::{RouterCore, Step};
 use gn_scribe::Scribe;
+use gn_service::Halted;
 use gn_table_router::{Configuring, Exchange, TableRouter};
 use gn_tables::Whole;
 use gn_threads::Course;
@@ -76,20 +77,39 @@ impl<'a, W: Sink, N: Naming<Global>> Following for Writing<'a, W, N> {
 }
 
 /// Writes what is left of the text of a run that stopped, where its history stands and has a step. That it can't be written changes no
-/// fault.
+/// fault; an `Err` is that of the text while the run went on.
 #[tactic(auto, using(crate::proofs::WritingLemmas::still_stopped))]
-pub(crate) fn write_stopped<A: Allocator, W: Sink>(
+fn write_stopped<A: Allocator, W: Sink>(
     history: &Option<Unkept<Step<A>>>,
     waiting: Result<Waiting<A>, PrintFault>,
     sink: &mut W,
-)
-    ensures { HasStoppedWriting history.now (W.state sink.old) (W.state sink.new) waiting }
+) -> Result<(), PrintFault>
+    ensures written { HasStoppedWriting history.now (W.state sink.old) (W.state sink.new) waiting }
+    ensures fault { MatchResult waiting (λ _. result ≡ Ok tt) (λ why. result ≡ Err why) }
 {
-    match (waiting, history) {
-        (Ok(waiting), Some(_)) if waiting.is_begun => {
-            let _ = finish_history(Ok(waiting), sink);
+    match waiting {
+        Ok(waiting) => {
+            if waiting.is_begun && history.is_some() {
+                let _ = finish_history(Ok(waiting), sink);
+            }
+            Ok(())
         }
-        _ => {}
+        Err(why) => Err(why),
+    }
+}
+
+/// Writes what is left of the text of a run that answered so: to its end, or what stands of one that stopped. An `Err` is why it
+/// isn't whole.
+pub(crate) fn finish_run<T, A: Allocator, W: Sink>(
+    answer: &Result<T, Halted<A>>,
+    waiting: Result<Waiting<A>, PrintFault>,
+    sink: &mut W,
+) -> Result<(), PrintFault>
+    ensures { HasFinishedRun answer.now (W.state sink.old) (W.state sink.new) waiting result }
+{
+    match answer {
+        Ok(_) => finish_history(waiting, sink),
+        Err(halted) => write_stopped(&halted.history, waiting, sink),
     }
 }
 

@@ -1,25 +1,32 @@
-use Rattle.std.proofs.Common.{is_some, rules}
+use Rattle.std.proofs.Common.{is_some}
 use Rattle.gn_service.specs.Any.{IsAnyAccount, IsResumedAccount}
-use Rattle.gn_start.specs.declared.fault.RunFault.TheVariants.{BadWorkers, NoMemory}
-use Rattle.gn_load.proofs.AnyLemmas.{unbegun}
+use Rattle.gn_load.specs.Any.{IsPastAccount}
+use Rattle.gn_load.proofs.AnyLemmas.{journalled_less, unbegun}
+use Rattle.gn_load.proofs.JournalLemmas.{arriving_fault}
 use Rattle.gn_load.proofs.journalled_any.serve_past_journalled.Goals as goal
 
-pub returns-then-serve-eq0-clause-resumed : goal.returns-then-serve-eq0-clause-resumed
-returns-then-serve-eq0-clause-resumed g c =
+pub returns-in-Ok-clause-resumed : goal.returns-in-Ok-clause-resumed
+returns-in-Ok-clause-resumed g c =
     let s = c.args.serve.now in
-    unbegun (λ account. IsResumedAccount s.accept.again s.config.now s.peers.now s.workers account) s.config.now s.workers (g.W.Sink.state c.args.sink.now) c.unbegun.result BadWorkers c.unbegun.ensures (search rules) (search rules)
+    journalled_less (λ account. IsPastAccount (g.P.Past.recalls c.args.past) s.accept.again (is_some s.accept.pings) s.batch s.config.now s.peers.now s.workers account)
+    (λ account. IsResumedAccount s.accept.again s.config.now s.peers.now s.workers account) (λ account is. is.0) s.config.now s.workers
+    (g.W.Sink.state c.args.sink.now) (g.W.Sink.state c.serve_past_named.new.sink) c.serve_past_named.result c.serve_past_named.ensures
 
-pub returns-then-serve-eq0-clause-any : goal.returns-then-serve-eq0-clause-any
-returns-then-serve-eq0-clause-any g c = λ none.
+pub returns-in-Ok-clause-any : goal.returns-in-Ok-clause-any
+returns-in-Ok-clause-any g c = λ none.
     let s = c.args.serve.now in
-    unbegun (λ account. IsAnyAccount s.accept.again (is_some s.accept.pings) s.batch s.config.now s.peers.now s.workers account) s.config.now s.workers (g.W.Sink.state c.args.sink.now) c.unbegun.result BadWorkers c.unbegun.ensures (search rules) (search rules)
+    journalled_less (λ account. IsPastAccount (g.P.Past.recalls c.args.past) s.accept.again (is_some s.accept.pings) s.batch s.config.now s.peers.now s.workers account)
+    (λ account. IsAnyAccount s.accept.again (is_some s.accept.pings) s.batch s.config.now s.peers.now s.workers account) (λ account is. is.1 none) s.config.now s.workers
+    (g.W.Sink.state c.args.sink.now) (g.W.Sink.state c.serve_past_named.new.sink) c.serve_past_named.result c.serve_past_named.ensures
 
-pub returns-in_default-clause-resumed : goal.returns-in_default-clause-resumed
-returns-in_default-clause-resumed g c =
+pub returns-in-Err-clause-resumed : goal.returns-in-Err-clause-resumed
+returns-in-Err-clause-resumed g c =
     let s = c.args.serve.now in
-    unbegun (λ account. IsResumedAccount s.accept.again s.config.now s.peers.now s.workers account) s.config.now s.workers (g.W.Sink.state c.args.sink.now) c.unbegun-in_default.result NoMemory c.unbegun-in_default.ensures (search rules) (search rules)
+    unbegun (λ account. IsResumedAccount s.accept.again s.config.now s.peers.now s.workers account) s.config.now s.workers (g.W.Sink.state c.args.sink.now) c.unbegun.result c.in-Err.fault
+    c.unbegun.ensures c.in-Err.ensures.bad_workers (λ crew. arriving_fault 0 s.workers c.in-Err.fault (c.in-Err.ensures.fault crew))
 
-pub returns-in_default-clause-any : goal.returns-in_default-clause-any
-returns-in_default-clause-any g c = λ none.
+pub returns-in-Err-clause-any : goal.returns-in-Err-clause-any
+returns-in-Err-clause-any g c = λ none.
     let s = c.args.serve.now in
-    unbegun (λ account. IsAnyAccount s.accept.again (is_some s.accept.pings) s.batch s.config.now s.peers.now s.workers account) s.config.now s.workers (g.W.Sink.state c.args.sink.now) c.unbegun-in_default.result NoMemory c.unbegun-in_default.ensures (search rules) (search rules)
+    unbegun (λ account. IsAnyAccount s.accept.again (is_some s.accept.pings) s.batch s.config.now s.peers.now s.workers account) s.config.now s.workers (g.W.Sink.state c.args.sink.now) c.unbegun.result c.in-Err.fault
+    c.unbegun.ensures c.in-Err.ensures.bad_workers (λ crew. arriving_fault 0 s.workers c.in-Err.fault (c.in-Err.ensures.fault crew))
