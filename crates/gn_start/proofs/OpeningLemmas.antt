@@ -1,6 +1,7 @@
 -- How a run begins, whose links are still to come.
-use Rattle.std.proofs.Common.{◌≡◌, ◌≤◌, ◌+◌, ℕ, Bool, true, false, Option, refl, sym, ◌∙◌, subst, arith}
-use Rattle.std.specs.Prelude.{IfSome}
+use Rattle.std.proofs.Common.{◌≡◌, ◌≤◌, ◌+◌, ℕ, Bool, true, false, Option, Result, Ok, Err, refl, sym, ◌∙◌, subst, arith}
+use Rattle.std.specs.Prelude.{IfOk, IfSome}
+use Rattle.std.specs.Result.{result_ok}
 use Rattle.gn_rules.specs.Limits.{most_links}
 use Rattle.gn_actors.specs.Who.{number_of}
 use Rattle.gn_actors.specs.declared.who.Numbering.{Numbering}
@@ -30,3 +31,8 @@ pub ends_by : (m : Numbering) (is_known : Bool) (ends : ℕ → Type 0) → ((li
     → is_known ≡ true → EndsBy m ends
 ends_by (Known n v) is_known ends known unknown is = (known n v refl).1
 ends_by (Open v) is_known ends known unknown is = let not : true ≡ false = sym is ∙ unknown v refl in absurd (cc not)
+
+-- what is so of what a call gave, where only that is kept
+pub some_of_ok : {T E : Type 0} (P Q : T → Type 0) (r : Result T E) (o : Option T) → ((t : T) → P t → Q t) → o ≡ result_ok r → IfOk r P → IfSome o Q
+some_of_ok {T} {E} P Q (Ok t) o as_well is so = subst (λ (x : Option T). IfSome x Q) (sym is) (as_well t so)
+some_of_ok {T} {E} P Q (Err e) o as_well is so = subst (λ (x : Option T). IfSome x Q) (sym is) tt

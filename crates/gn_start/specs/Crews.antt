@@ -5,6 +5,7 @@ use Rattle.gn_actors.specs.Who.{number_of}
 use Rattle.gn_actors.specs.declared.who.Numbering.{Numbering}
 use Rattle.gn_actors.specs.declared.who.Who.TheVariants.{Worker}
 use Rattle.gn_report.specs.Accounts.{is_routing}
+use Rattle.gn_stage.specs.declared.site.Site.{Ghosts}
 use Rattle.gn_start.specs.Faults.{IsFaultOf}
 use Rattle.gn_start.specs.Numbers.{workers_of}
 use Rattle.gn_start.specs.declared.crew.Crew.{Crew}
@@ -17,8 +18,8 @@ count_from first zero = []
 count_from first (suc n) = first ∷ count_from (suc first) n
 
 -- so many workers were to start, whose actors have the numbers from this one on: all have, where none is lost
-pub record IsCrewOf {B A : Type 0} (first many : ℕ) (crew : Crew B A) : Type 0 where
-  pub numbers : map (λ h. h.promise.number) crew.handles.items ≡ count_from first (vec_len crew.handles)
+pub record IsCrewOf {B A : Type 0} {site : Ghosts B} (first many : ℕ) (crew : Crew B A site) : Type 0 where
+  pub numbers : map (λ h. h.promise.start.value.actor.number) crew.handles.items ≡ count_from first (vec_len crew.handles)
   pub most : vec_len crew.handles ≤ many
   pub whole : crew.is_lost ≡ false → vec_len crew.handles ≡ many
 

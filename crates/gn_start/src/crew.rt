@@ -120,12 +120,13 @@ impl<
         requires none { slice_index_or registry.old.lists (number_of numbering (who.Worker worker)) [] ≡ [] }
         requires room { registry.old.out + 1 < 2 ^ 32 }
         ensures registry { registry.new ≡ with_one_out registry.old }
-        ensures number { IfSome result (λ h. h.promise.number ≡ number_of numbering (who.Worker worker)) }
+        ensures number { IfSome result (λ h. h.promise.start.value.actor.number
+            ≡ number_of numbering (who.Worker worker)) }
     {
         // It shows that all numbers are of 32 bits.
         let _many = registry.many();
         let actor = registry.send(numbering.number_of(Who::Worker(worker)));
-        self.start_worker(WorkerStart {
+        self.start_thread(WorkerStart {
             actor,
             worker,
             outlet,

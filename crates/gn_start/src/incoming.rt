@@ -90,13 +90,15 @@ pub trait Incoming: Drop {
     /// Learns what the rules answered to the event that was given last. An `Err` ends the run.
     fn recalled<A: Allocator + Copy>(
         &mut self,
-        _recall: Recall<A>,
-        _answer: Result<Receipt<A>, Refusal>,
+        recall: Recall<A>,
+        answer: Result<Receipt<A>, Refusal>,
     ) -> Result<(), RunFault>
         ensures coming { IsSameFrom may_come may_end 0 self.old self.new }
         ensures same { (originates self.new ≡ originates self.old) × (recalls self.new ≡ recalls self.old) }
         ensures fault { IfErr result (λ fault. (links workers : ℕ) → IsArrivingFault has_peers links workers fault) }
     {
+        drop(recall);
+        drop(answer);
         Ok(())
     }
 

@@ -47,53 +47,61 @@ pub(crate) struct WorkerStart<B: Site + Ledger + Named, A: Allocator = Global> {
     pub ghost none: { actor.receipts ≡ [] },
 }
 
-/// The promise of a reader's thread: what its body keeps, from this start.
-#[derive(Drop)]
-pub(crate) struct Reads<Rd: LinkReader, B: Site + Ledger + Named, A: Allocator = Global> {
-    pub start: Snapshot<ReaderStart<Rd, B, A>>,
+/// What the body of a thread starts from.
+pub(crate) trait Start {
+    /// What the body leaves.
+    type Done;
+
+    /// What that keeps, from this start.
+    ghost kept: { Self → Self.Done → Type 0 };
 }
 
-impl<Rd: LinkReader, B: Site + Ledger + Limited + Named, A: Allocator> Promise<ReaderDone<Rd, B, A>>
-    for Reads<Rd, B, A> {
+impl<Rd: LinkReader, B: Site + Ledger + Limited + Named, A: Allocator> Start
+    for ReaderStart<Rd, B, A> {
     ghost use Rattle.gn_bodies.specs.Done.{half_of};
     ghost use Rattle.gn_start.specs.Joined.{IsReaderJoined};
 
-    ghost kept_by = { λ p r. IsReaderJoined Rd.state Rd.made_of Rd.gives B.turns p.start.value.actor.number
-        (half_of p.start.value.role p.start.value.reader) r };
+    type Done = ReaderDone<Rd, B, A>;
+
+    ghost kept = { λ s r. IsReaderJoined Rd.state Rd.made_of Rd.gives B.turns s.actor.number
+        (half_of s.role s.reader) r };
 }
 
-/// The promise of a writer's thread: what its body keeps, from this start.
-#[derive(Drop)]
-pub(crate) struct Writes<W: LinkWriter, B: Ledger + Named, A: Allocator = Global> {
-    pub start: Snapshot<WriterStart<W, B, A>>,
-}
-
-impl<W: LinkWriter, B: Ledger + Limited + Named, A: Allocator> Promise<WriterDone<W, B, A>>
-    for Writes<W, B, A> {
+impl<W: LinkWriter, B: Ledger + Limited + Named, A: Allocator> Start for WriterStart<W, B, A> {
     ghost use Rattle.gn_bodies.specs.Done.{half_of};
     ghost use Rattle.gn_start.specs.Joined.{IsWriterJoined};
 
-    ghost kept_by = { λ p r. IsWriterJoined W.state W.made_of B.batch p.start.value.actor.number
-        (half_of p.start.value.role p.start.value.writer) r };
+    type Done = WriterDone<W, B, A>;
+
+    ghost kept = { λ s r. IsWriterJoined W.state W.made_of B.batch s.actor.number (half_of s.role s.writer) r };
 }
 
-/// The promise of a worker's thread: its actor has this number, and made no event but routes.
-#[derive(Clone, Copy)]
-pub(crate) struct Works {
-    pub number: u32,
-}
-
-impl<B: Site + Ledger + Named, A: Allocator> Promise<WorkerDone<B, A>> for Works {
+impl<B: Site + Ledger + Named, A: Allocator> Start for WorkerStart<B, A> {
     ghost use Rattle.gn_start.specs.Joined.{IsWorkerJoined};
 
-    ghost kept_by = { λ p r. IsWorkerJoined p.number r };
+    type Done = WorkerDone<B, A>;
+
+    ghost kept = { λ s r. IsWorkerJoined s.actor.number r };
 }
 
+/// The promise of a thread: what its body keeps, from this start.
+#[derive(Drop)]
+pub(crate) struct Promised<S> {
+    pub start: Snapshot<S>,
+}
+
+impl<S: Start> Promise<S::Done> for Promised<S> {
+    ghost kept_by = { λ p r. S.kept p.start.value r };
+}
+
+/// A thread, with what its body promises.
+pub(crate) type Handle<S> = PromisedHandle<<S as Start>::Done, Promised<S>>;
+
 /// The thread of a reader, with what its body promises.
-pub(crate) type ReaderHandle<Rd, B, A> = PromisedHandle<ReaderDone<Rd, B, A>, Reads<Rd, B, A>>;
+pub(crate) type ReaderHandle<Rd, B, A> = Handle<ReaderStart<Rd, B, A>>;
 
 /// The thread of a writer, with what its body promises.
-pub(crate) type WriterHandle<W, L, A> = PromisedHandle<WriterDone<W, L, A>, Writes<W, L, A>>;
+pub(crate) type WriterHandle<W, L, A> = Handle<WriterStart<W, L, A>>;
 
 /// The thread of a worker, with what its body promises.
-pub(crate) type WorkerHandle<B, A> = PromisedHandle<WorkerDone<B, A>, Works>;
+pub(crate) type WorkerHandle<B, A> = Handle<WorkerStart<B, A>>;

@@ -3,15 +3,12 @@
 ghost use Rattle.std.specs.Prelude.{◌≡◌, [], true, IfSome};
 ghost use Rattle.gn_hub.specs.ActorState.{new_actor};
 ghost use Rattle.gn_links.specs.Halves.{IsNewReader, IsNewWriter};
-ghost use Rattle.gn_bodies.specs.Done.{half_of};
-ghost use Rattle.gn_start.specs.Joined.{IsReaderJoined, IsWorkerJoined, IsWriterJoined};
 
 use crate::floor::Floor;
 use crate::incoming::NewLink;
 use crate::limits::Limited;
 use crate::promises::{
-    ReaderHandle, ReaderStart, Reads, WorkerHandle, WorkerStart, Works, WriterHandle, WriterStart,
-    Writes,
+    Handle, Promised, ReaderHandle, ReaderStart, Start, WorkerStart, WriterHandle, WriterStart,
 };
 use crate::slots::LiveLink;
 use gn_actors::Named;
@@ -29,108 +26,120 @@ use std::sync::Wait;
 use std::sync::ledger::Ledger;
 use std::thread::{Scope, Threads};
 
-/// The body of a reader, from its start.
-fn run_reader<
+/// What a body starts from that runs on a floor.
+pub(crate) trait Body<
+    C: RouterCore<A> + Drop,
+    B: Ledger + Limited + Named,
+    G,
+    A: Allocator + Copy,
+    R,
+>: Start {
+    /// Runs it.
+    fn run(self, floor: &Floor<'_, C, B, G, A, R>) -> Self::Done
+        ensures { Self.kept self result };
+}
+
+/// The body of a reader.
+impl<
     Rd: LinkReader,
     B: Site + Ledger + Limited + Named,
     C: RouterCore<A> + Drop,
     G: Gate,
     A: Allocator + Copy,
     R: Wait,
->(floor: &Floor<'_, C, B, G, A, R>, start: ReaderStart<Rd, B, A>) -> ReaderDone<Rd, B, A>
-    ensures { IsReaderJoined Rd.state Rd.made_of Rd.gives B.turns start.actor.number
-        (half_of start.role start.reader) result }
-{
-    let ReaderStart {
-        actor,
-        place,
-        role,
-        reader,
-        intake,
-    } = start;
-    let caller = Caller {
-        rt: floor.rt,
-        alloc: floor.alloc,
-        service: floor.service,
-        gate: floor.gate,
-        place,
-        actor,
-    };
-    let task = ReaderTask {
-        role,
-        turns: floor.limits.turns,
-        batch: floor.limits.batch,
-        reader,
-        intake,
-    };
-    let done = reader_body(caller, task);
-    floor.signal.ended(floor.rt, place.slot);
-    done
+> Body<C, B, G, A, R> for ReaderStart<Rd, B, A> {
+    fn run(self, floor: &Floor<'_, C, B, G, A, R>) -> ReaderDone<Rd, B, A> {
+        let ReaderStart {
+            actor,
+            place,
+            role,
+            reader,
+            intake,
+        } = self;
+        let caller = Caller {
+            rt: floor.rt,
+            alloc: floor.alloc,
+            service: floor.service,
+            gate: floor.gate,
+            place,
+            actor,
+        };
+        let task = ReaderTask {
+            role,
+            turns: floor.limits.turns,
+            batch: floor.limits.batch,
+            reader,
+            intake,
+        };
+        let done = reader_body(caller, task);
+        floor.signal.ended(floor.rt, place.slot);
+        done
+    }
 }
 
-/// The body of a writer, from its start.
-fn run_writer<
+/// The body of a writer.
+impl<
     W: LinkWriter,
     B: Ledger + Limited + Named,
     C: RouterCore<A> + Drop,
     G: Gate,
     A: Allocator + Copy,
     R: Wait,
->(floor: &Floor<'_, C, B, G, A, R>, start: WriterStart<W, B, A>) -> WriterDone<W, B, A>
-    ensures { IsWriterJoined W.state W.made_of B.batch start.actor.number (half_of start.role start.writer) result }
-{
-    let WriterStart {
-        actor,
-        place,
-        role,
-        writer,
-    } = start;
-    let caller = Caller {
-        rt: floor.rt,
-        alloc: floor.alloc,
-        service: floor.service,
-        gate: floor.gate,
-        place,
-        actor,
-    };
-    let task = WriterTask {
-        role,
-        batch: floor.limits.batch,
-        writer,
-    };
-    let done = writer_body(caller, task);
-    floor.signal.ended(floor.rt, place.slot);
-    done
+> Body<C, B, G, A, R> for WriterStart<W, B, A> {
+    fn run(self, floor: &Floor<'_, C, B, G, A, R>) -> WriterDone<W, B, A> {
+        let WriterStart {
+            actor,
+            place,
+            role,
+            writer,
+        } = self;
+        let caller = Caller {
+            rt: floor.rt,
+            alloc: floor.alloc,
+            service: floor.service,
+            gate: floor.gate,
+            place,
+            actor,
+        };
+        let task = WriterTask {
+            role,
+            batch: floor.limits.batch,
+            writer,
+        };
+        let done = writer_body(caller, task);
+        floor.signal.ended(floor.rt, place.slot);
+        done
+    }
 }
 
-/// The body of a worker, from its start.
-fn run_worker<
+/// The body of a worker.
+impl<
     B: Site + Ledger + Limited + Named,
     C: RouterCore<A> + Drop,
     G: Gate,
     A: Allocator + Copy,
     R: Wait,
->(floor: &Floor<'_, C, B, G, A, R>, start: WorkerStart<B, A>) -> WorkerDone<B, A>
-    ensures { IsWorkerJoined start.actor.number result }
-{
-    let WorkerStart {
-        actor,
-        worker,
-        outlet,
-    } = start;
-    let caller = Caller {
-        rt: floor.rt,
-        alloc: floor.alloc,
-        service: floor.service,
-        gate: floor.gate,
-        place: Place::of(worker),
-        actor,
-    };
-    let task = WorkerTask {
-        batch: floor.limits.batch,
-        outlet,
-    };
-    worker_body(caller, task)
+> Body<C, B, G, A, R> for WorkerStart<B, A> {
+    fn run(self, floor: &Floor<'_, C, B, G, A, R>) -> WorkerDone<B, A> {
+        let WorkerStart {
+            actor,
+            worker,
+            outlet,
+        } = self;
+        let caller = Caller {
+            rt: floor.rt,
+            alloc: floor.alloc,
+            service: floor.service,
+            gate: floor.gate,
+            place: Place::of(worker),
+            actor,
+        };
+        let task = WorkerTask {
+            batch: floor.limits.batch,
+            outlet,
+        };
+        worker_body(caller, task)
+    }
 }
 
 /// Starts the threads of a run in a scope.
@@ -157,61 +166,22 @@ impl<
     A: Allocator + Copy + Send + Sync + 's,
     R: Threads + Wait + Sync + 's,
 > Starter<'s, E, C, B, G, A, R> {
-    /// Starts a reader. None where no thread can be made.
-    fn start_reader<Rd: LinkReader + Send + 's>(
+    /// Starts a thread that runs this body. None where none can be made.
+    pub(crate) fn start_thread<S: Body<C, B, G, A, R> + Drop + Send + 's>(
         &self,
-        start: ReaderStart<Rd, B, A>,
-    ) -> Option<ReaderHandle<Rd, B, A>>
+        start: S,
+    ) -> Option<Handle<S>>
+    where
+        S::Done: Send + Drop + 's,
         ensures { IfSome result (λ h. h.promise.start.value ≡ start) }
     {
-        let promise = Reads {
+        let promise = Promised {
             start: Snapshot::of(&start),
         };
         let floor = self.floor;
-        match self
-            .scope
-            .spawn_with(promise, move || run_reader(floor, start))
-        {
-            Ok(handle) => Some(handle),
-            Err(_) => None,
-        }
-    }
-
-    /// Starts a writer. None where no thread can be made.
-    fn start_writer<W: LinkWriter + Send + 's>(
-        &self,
-        start: WriterStart<W, B, A>,
-    ) -> Option<WriterHandle<W, B, A>>
-        ensures { IfSome result (λ h. h.promise.start.value ≡ start) }
-    {
-        let promise = Writes {
-            start: Snapshot::of(&start),
-        };
-        let floor = self.floor;
-        match self
-            .scope
-            .spawn_with(promise, move || run_writer(floor, start))
-        {
-            Ok(handle) => Some(handle),
-            Err(_) => None,
-        }
-    }
-
-    /// Starts a worker. None where no thread can be made.
-    pub(crate) fn start_worker(&self, start: WorkerStart<B, A>) -> Option<WorkerHandle<B, A>>
-        ensures { IfSome result (λ h. h.promise.number ≡ start.actor.number) }
-    {
-        let promise = Works {
-            number: start.actor.number(),
-        };
-        let floor = self.floor;
-        match self
-            .scope
-            .spawn_with(promise, move || run_worker(floor, start))
-        {
-            Ok(handle) => Some(handle),
-            Err(_) => None,
-        }
+        self.scope
+            .spawn_with(promise, move || start.run(floor))
+            .ok()
     }
 
     /// Starts the two threads of a link. None where one can't be made: then the run has failed, and the other is joined.
@@ -223,11 +193,11 @@ impl<
         ensures reader { IfSome result (λ both. both.0.promise.start.value ≡ reading) }
         ensures writer { IfSome result (λ both. both.1.promise.start.value ≡ writing) }
     {
-        let Some(reader) = self.start_reader(reading) else {
+        let Some(reader) = self.start_thread(reading) else {
             drop(writing);
             return None;
         };
-        let Some(writer) = self.start_writer(writing) else {
+        let Some(writer) = self.start_thread(writing) else {
             self.fail();
             drop(reader.join(self.floor.rt));
             return None;

@@ -9,9 +9,9 @@ loop-outlet-preserved g c =
     let was = c.loop-outlet.invariant in
     let pushed = c.push_reserved.ensures in
     let handle = c.in-Some-start_next.handle in
-    let number = next_number c.args.numbering c.loop-outlet.worker handle.promise.number c.in-Some-start_next.ensures.number in
+    let number = next_number c.args.numbering c.loop-outlet.worker handle.promise.start.value.actor.number c.in-Some-start_next.ensures.number in
     record {
-      numbers = one_more (λ h. h.promise.number) (number_of c.args.numbering (Worker 0)) c.loop-outlet.worker (vec_items c.loop-outlet.handles) (vec_items c.push_reserved.new.self) handle pushed.items number was.numbers;
+      numbers = one_more (λ h. h.promise.start.value.actor.number) (number_of c.args.numbering (Worker 0)) c.loop-outlet.worker (vec_items c.loop-outlet.handles) (vec_items c.push_reserved.new.self) handle pushed.items number was.numbers;
       many = omega (arith, was.many, pushed.len);
       left = omega (arith, was.left, c.in-Some.ensures.steps.1);
       room = omega (arith, was.room, pushed.capacity);

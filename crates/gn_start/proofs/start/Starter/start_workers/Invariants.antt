@@ -9,7 +9,7 @@ use Rattle.gn_start.proofs.start.Starter.start_workers.Given as goal
 
 abbrev pub invariant-loop-outlet : goal.invariant-loop-outlet
 invariant-loop-outlet g l = record {
-  numbers : map (λ h. h.promise.number) (vec_items l.handles) ≡ count_from (number_of l.fn.numbering (Worker 0)) l.worker;
+  numbers : map (λ h. h.promise.start.value.actor.number) (vec_items l.handles) ≡ count_from (number_of l.fn.numbering (Worker 0)) l.worker;
   many : vec_len l.handles ≡ l.worker;
   left : l.worker + into_iter_len l.outlet-iterator ≡ vec_len l.fn.outlets;
   room : vec_len l.fn.outlets ≤ vec_capacity l.handles;
