@@ -1,14 +1,15 @@
 -- What a run over TCP answers that takes any number of callers.
-use Rattle.std.proofs.Common.{◌≡◌, ◌⊎◌, ◌≤◌, ◌+◌, ◌∙◌, ℕ, Bool, true, List, length, reverse, Some, Ok, Err, sym, subst, inl, inr, arith}
-use Rattle.std.specs.Prelude.{IfSome}
+use Rattle.std.proofs.Common.{◌≡◌, ◌⊎◌, ◌≤◌, ◌+◌, ◌∙◌, ℕ, Bool, true, List, length, reverse, Some, Result, Ok, Err, sym, subst, inl, inr, arith}
+use Rattle.std.specs.Prelude.{IfSome, MatchResult}
 use Rattle.std.specs.declared.net.socket_addr.SocketAddr.{SocketAddr}
 use Rattle.gn_rules.specs.Answer.{IsLegal}
 use Rattle.gn_rules.specs.declared.config.Config.{Config}
+use Rattle.gn_rules.specs.declared.receipt.Step.{Step}
 use Rattle.gn_sockets.specs.TcpHalves.{TcpReading, TcpWriting}
 use Rattle.gn_start.specs.Faults.{IsArrivingFault}
 use Rattle.gn_start.specs.declared.fault.RunFault.{RunFault}
 use Rattle.gn_start.specs.declared.fault.RunFault.TheVariants.{BadWorkers, HistoryFull}
-use Rattle.gn_threads.specs.OpenRuns.{IsOpenAnswer, IsOpenFault, IsRecalledAnswer}
+use Rattle.gn_threads.specs.OpenRuns.{AreOpenStepsOf, IsOpenAnswer, IsOpenFault, IsRecalledAnswer}
 use Rattle.gn_threads.specs.declared.halted.Halted.{Halted}
 use Rattle.gn_threads.specs.declared.open_account.OpenAccount.{OpenAccount}
 use Rattle.gn_service.specs.Any.{IsAnyAccount, IsLinkOf, IsResumedAccount, IsServedAfter, open_account, tcp_views}
@@ -34,7 +35,7 @@ resumed_first again s peers workers account h =
     }
 
 -- a run with an account that has failed
-pub failed_at : {A : Type 0} (recalls again pings : Bool) (batch : ℕ) (s : Config) (peers : List SocketAddr) (workers : ℕ) (account : OpenAccount TcpReading TcpWriting A) (after : Halted A) (fault : RunFault)
+failed_at : {A : Type 0} (recalls again pings : Bool) (batch : ℕ) (s : Config) (peers : List SocketAddr) (workers : ℕ) (account : OpenAccount TcpReading TcpWriting A) (after : Halted A) (fault : RunFault)
     → IsServedAfter recalls again pings batch s peers workers open_account (Ok account) → (after.fault ≡ fault) × (after.history ≡ Some account.history) → ¬ (fault ≡ BadWorkers) → ¬ (fault ≡ HistoryFull)
     → ((links workers : ℕ) → length peers ≤ links → IsArrivingFault true links workers fault) → IsServedAfter recalls again pings batch s peers workers open_account (Err after)
 failed_at recalls again pings batch s peers workers account after fault served is crew space may =
@@ -57,7 +58,7 @@ failed_at recalls again pings batch s peers workers account after fault served i
     }
 
 -- a run that stopped and has failed for a call, too
-pub failed_too : {A : Type 0} (recalls again pings : Bool) (batch : ℕ) (s : Config) (peers : List SocketAddr) (workers : ℕ) (halted after : Halted A) (fault : RunFault)
+failed_too : {A : Type 0} (recalls again pings : Bool) (batch : ℕ) (s : Config) (peers : List SocketAddr) (workers : ℕ) (halted after : Halted A) (fault : RunFault)
     → IsServedAfter recalls again pings batch s peers workers open_account (Err halted) → (after.fault ≡ halted.fault) ⊎ ((after.fault ≡ fault) × (¬ (halted.fault ≡ BadWorkers)))
     → after.history ≡ halted.history → ¬ (fault ≡ BadWorkers) → ¬ (fault ≡ HistoryFull)
     → ((links workers : ℕ) → length peers ≤ links → IsArrivingFault true links workers fault) → IsServedAfter recalls again pings batch s peers workers open_account (Err after)
@@ -96,3 +97,22 @@ failed_too recalls again pings batch s peers workers halted after fault served e
         account = λ none. tt;
       }
     ]
+
+-- a run that answered, and has failed for a call
+pub failed_for : {A : Type 0} (recalls again pings : Bool) (batch : ℕ) (s : Config) (peers : List SocketAddr) (workers : ℕ) (answer : Result (OpenAccount TcpReading TcpWriting A) (Halted A)) (after : Halted A) (fault : RunFault)
+    → IsServedAfter recalls again pings batch s peers workers open_account answer
+    → MatchResult answer (λ _. after.fault ≡ fault) (λ halted. (after.fault ≡ halted.fault) ⊎ ((after.fault ≡ fault) × (¬ (halted.fault ≡ BadWorkers))))
+    → MatchResult answer (λ account. after.history ≡ Some account.history) (λ halted. after.history ≡ halted.history)
+    → ¬ (fault ≡ BadWorkers) → ¬ (fault ≡ HistoryFull)
+    → ((links workers : ℕ) → length peers ≤ links → IsArrivingFault true links workers fault) → IsServedAfter recalls again pings batch s peers workers open_account (Err after)
+failed_for recalls again pings batch s peers workers (Ok account) after fault served at same crew space may =
+    failed_at recalls again pings batch s peers workers account after fault served (at, same) crew space may
+failed_for recalls again pings batch s peers workers (Err halted) after fault served at same crew space may =
+    failed_too recalls again pings batch s peers workers halted after fault served at same crew space may
+
+-- its steps are the same
+pub cut_steps : {A : Type 0} (answer : Result (OpenAccount TcpReading TcpWriting A) (Halted A)) (after : Halted A)
+    → MatchResult answer (λ account. after.history ≡ Some account.history) (λ halted. after.history ≡ halted.history)
+    → (steps : List (Step A)) → AreOpenStepsOf answer steps → AreOpenStepsOf {Rd = TcpReading} {W = TcpWriting} (Err after) steps
+cut_steps (Ok account) after same steps held = subst (λ h. IfSome h (λ history. history.items ≡ steps)) (sym same) held
+cut_steps (Err halted) after same steps held = subst (λ h. IfSome h (λ history. history.items ≡ steps)) (sym same) held

@@ -1,15 +1,17 @@
 -- What a run over TCP answers that has failed for one of its calls.
 use Rattle.std.proofs.Common.{◌≡◌, ◌⊎◌, ◌≤◌, ◌+◌, ◌∙◌, ℕ, true, List, length, reverse, Some, Result, Ok, Err, sym, subst, inl, inr, arith}
-use Rattle.std.specs.Prelude.{IfSome}
+use Rattle.std.specs.Prelude.{IfSome, MatchResult}
 use Rattle.std.specs.declared.net.socket_addr.SocketAddr.{SocketAddr}
 use Rattle.gn_rules.specs.Answer.{IsLegal}
 use Rattle.gn_rules.specs.Limits.{IsCrew}
 use Rattle.gn_rules.specs.declared.config.Config.{Config}
+use Rattle.gn_rules.specs.declared.receipt.Step.{Step}
 use Rattle.gn_report.specs.declared.account.Account.{Account}
 use Rattle.gn_report.specs.declared.report.Report.{Report}
 use Rattle.gn_report.specs.Told.{Tells}
 use Rattle.gn_sockets.specs.TcpHalves.{TcpReading, TcpWriting}
 use Rattle.gn_threads.specs.Answers.{halted_views, stopped_views}
+use Rattle.gn_threads.specs.Courses.{AreStepsOf}
 use Rattle.gn_start.specs.Faults.{IsArrivingFault}
 use Rattle.gn_start.specs.declared.fault.RunFault.{RunFault}
 use Rattle.gn_start.specs.declared.fault.RunFault.TheVariants.{BadWorkers, HistoryFull}
@@ -24,7 +26,7 @@ use Rattle.gn_service.specs.Tallies.{tallies_of}
 use Rattle.gn_service.proofs.TallyLemmas.{tallied_as, tallies_as}
 
 -- a run with an account that has failed
-pub failed_at : {A : Type 0} (batch : ℕ) (s : Config) (peers : List SocketAddr) (accept workers : ℕ) (account : Account TcpReading TcpWriting A) (after : Halted A) (fault : RunFault)
+failed_at : {A : Type 0} (batch : ℕ) (s : Config) (peers : List SocketAddr) (accept workers : ℕ) (account : Account TcpReading TcpWriting A) (after : Halted A) (fault : RunFault)
     → IsTallied batch s peers accept workers (Ok account) → after.fault ≡ fault → after.history ≡ Some account.history
     → IfSome after.links (λ tallies. tallies.items ≡ tallies_of account.links.items) → ¬ (fault ≡ BadWorkers) → ¬ (fault ≡ HistoryFull)
     → ((links workers : ℕ) → length peers ≤ links → IsArrivingFault true links workers fault) → IsTallied batch s peers accept workers (Err after)
@@ -49,7 +51,7 @@ failed_at batch s peers accept workers account after fault served at same tallie
     }
 
 -- a run that stopped and has failed for a call, too
-pub failed_too : {A : Type 0} (batch : ℕ) (s : Config) (peers : List SocketAddr) (accept workers : ℕ) (halted after : Halted A) (fault : RunFault)
+failed_too : {A : Type 0} (batch : ℕ) (s : Config) (peers : List SocketAddr) (accept workers : ℕ) (halted after : Halted A) (fault : RunFault)
     → IsTallied batch s peers accept workers (Err halted) → (after.fault ≡ halted.fault) ⊎ ((after.fault ≡ fault) × (¬ (halted.fault ≡ BadWorkers)))
     → (after.history ≡ halted.history) × (after.links ≡ halted.links) → ¬ (fault ≡ BadWorkers) → ¬ (fault ≡ HistoryFull)
     → ((links workers : ℕ) → length peers ≤ links → IsArrivingFault true links workers fault) → IsTallied batch s peers accept workers (Err after)
@@ -93,6 +95,26 @@ failed_too batch s peers accept workers halted after fault served either same cr
         tallied = tallied;
       }
     ]
+
+-- a run that answered, and has failed for a call
+pub failed_for : {A : Type 0} (batch : ℕ) (s : Config) (peers : List SocketAddr) (accept workers : ℕ) (answer : Result (Account TcpReading TcpWriting A) (Halted A)) (after : Halted A) (fault : RunFault)
+    → IsTallied batch s peers accept workers answer
+    → MatchResult answer (λ _. after.fault ≡ fault) (λ halted. (after.fault ≡ halted.fault) ⊎ ((after.fault ≡ fault) × (¬ (halted.fault ≡ BadWorkers))))
+    → MatchResult answer (λ account. after.history ≡ Some account.history) (λ halted. after.history ≡ halted.history)
+    → MatchResult answer (λ account. IfSome after.links (λ tallies. tallies.items ≡ tallies_of account.links.items)) (λ halted. after.links ≡ halted.links)
+    → ¬ (fault ≡ BadWorkers) → ¬ (fault ≡ HistoryFull)
+    → ((links workers : ℕ) → length peers ≤ links → IsArrivingFault true links workers fault) → IsTallied batch s peers accept workers (Err after)
+failed_for batch s peers accept workers (Ok account) after fault served at same tallies crew space may =
+    failed_at batch s peers accept workers account after fault served at same tallies crew space may
+failed_for batch s peers accept workers (Err halted) after fault served at same tallies crew space may =
+    failed_too batch s peers accept workers halted after fault served at (same, tallies) crew space may
+
+-- its steps are the same
+pub failed_steps : {A : Type 0} (answer : Result (Account TcpReading TcpWriting A) (Halted A)) (after : Halted A)
+    → MatchResult answer (λ account. after.history ≡ Some account.history) (λ halted. after.history ≡ halted.history)
+    → (steps : List (Step A)) → AreStepsOf answer steps → AreStepsOf {Rd = TcpReading} {W = TcpWriting} (Err after) steps
+failed_steps (Ok account) after same steps held = subst (λ h. IfSome h (λ history. history.items ≡ steps)) (sym same) held
+failed_steps (Err halted) after same steps held = subst (λ h. IfSome h (λ history. history.items ≡ steps)) (sym same) held
 
 -- what is answered with a report of the run, where an account of it is
 pub served_told : {A : Type 0} (batch : ℕ) (s : Config) (peers : List SocketAddr) (accept workers : ℕ) (account : Account TcpReading TcpWriting A) (ran : Remembered A) (report : Report TcpReading TcpWriting A) (also : Remembered A)

@@ -5,7 +5,6 @@ use crate::entrance::Entrance;
 use crate::rate::Rate;
 use crate::registering::{stopper_of, threads_come};
 use std::alloc::{Allocator, Global};
-use std::net::{Net, TcpListener, TcpStream};
 use std::sync::Wait;
 use std::thread::Threads;
 use std::time::Clock;
@@ -19,11 +18,7 @@ pub(crate) struct Accepter<'a, N, A: Allocator = Global> {
     pub callers_a_minute: Option<u32>,
 }
 
-impl<
-    'a,
-    N: Threads + Wait + Net<Listener = TcpListener, Stream = TcpStream> + Clock,
-    A: Allocator,
-> Accepter<'a, N, A> {
+impl<'a, N: Threads + Wait + Clock, A: Allocator> Accepter<'a, N, A> {
     /// Waits for a caller, and puts it on the doorstep once it has all handles that it needs, and the system gives its link's threads.
     /// Where the run is stopped meanwhile, or too many of its address have come, it is let go.
     fn accept(&self, rate: &mut Rate) {

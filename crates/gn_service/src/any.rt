@@ -10,10 +10,9 @@ use crate::accepting::Accepter;
 use crate::counted::Counted;
 use crate::doorstep::Doorstep;
 use crate::entrance::Entrance;
-use crate::failing::{call_fault, cut_at, failed_too};
+use crate::failing::{call_fault, cut_for};
 use crate::host::Host;
 use crate::newcomers::Newcomers;
-use crate::owed::Owed;
 use crate::parting::{Parting, Told};
 use crate::past::{NoPast, Past, Recalling};
 use crate::pings::{Pinging, Reminder};
@@ -29,6 +28,9 @@ use gn_rules::{MOST_LINKS, RouterCore};
 use gn_tcp::{TcpReader, TcpWriter};
 use gn_threads::{Asked, Course, Entering, Halted, OpenAccount, Routing, run_open};
 use std::alloc::{Allocator, Global};
+use std::sync::Wait;
+use std::thread::Threads;
+use std::time::Clock;
 
 /// Places for callers that are greeted, or told that there are too many, beside those of the neighbours.
 const MORE: u32 = 16;
@@ -77,15 +79,12 @@ where
             s.peers.now s.workers open_account result.0 }
         ensures rest { IsLeft (W.follows self.entry.routing.course) W.leaves result.1 (AreOpenStepsOf result.0) }
     {
-        let serving = &self.serve.limits;
         let own = Stop::new(None, false);
-        let stop = match serving.stop {
-            Some(stop) => stop,
-            None => &own,
-        };
-        let (listener, again) = (self.serve.listener, self.serve.accept.again);
-        let owed = Owed::of(self.serve, stop, self.serve.config.numbers.neighbours);
-        let stops = Stops::new(self.rt, self.alloc, stop, serving, listener, again, owed);
+        let (again, links) = (
+            self.serve.accept.again,
+            self.serve.config.numbers.neighbours,
+        );
+        let stops = Stops::new(self.rt, self.alloc, self.serve, &own, again, links);
         self.beside(&stops)
     }
 
@@ -130,7 +129,22 @@ where
             { self.run(stops, doorstep, reminder, signal) },
         )
     }
+}
 
+impl<
+    'a,
+    's,
+    C: RouterCore<A> + Drop + Send,
+    W: Course<C, A> + Send + Drop,
+    G: Watch + Sync,
+    T: Parting<A> + Sync,
+    P: Past + Send,
+    R: Threads + Wait + Clock + AllocGlobal + Sync,
+    A: Allocator + Copy + Send + Sync,
+> Unlimited<'a, 's, C, W, G, T, P, R, A>
+where
+    W::Followed: Send + Drop,
+{
     /// Runs the router, until `stops` ends it where it is stopped. Where one of its calls fails the run has failed, whatever it answers.
     fn run(
         self,
@@ -150,10 +164,9 @@ where
         let calls = self.serve.peers.len();
         self.serve.watch.open(self.serve.config.numbers.steps);
         let (answer, rest) = self.over_links(stops, doorstep, reminder, signal);
-        match (answer, call_fault(stops, calls)) {
-            (answer, None) => (answer, rest),
-            (Ok(account), Some(fault)) => (Err(cut_at(account, fault)), rest),
-            (Err(halted), Some(fault)) => (Err(failed_too(halted, fault)), rest),
+        match call_fault(stops, calls) {
+            Some(fault) => (Err(cut_for(answer, fault)), rest),
+            None => (answer, rest),
         }
     }
 

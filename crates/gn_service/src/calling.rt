@@ -5,7 +5,7 @@ ghost use Rattle.gn_tcp.specs.Tcp.{IsLoopback};
 
 use crate::accepting::Accepter;
 use crate::asked::Asked;
-use crate::floods::{Flood, SLOTS};
+use crate::looks::Looks;
 use crate::pings::Reminder;
 use crate::registering::{moment, pause, registered};
 use crate::serving::Serving;
@@ -18,13 +18,18 @@ use std::alloc::{Allocator, Global};
 use std::net::{Net, SocketAddr, TcpListener, TcpStream};
 use std::sync::Wait;
 use std::thread::{Scope, Threads};
-use std::time::{Clock, Duration, Instant};
+use std::time::{Clock, Duration};
 
 /// Seconds for which a call waits for its answer.
 const CALL: u64 = 1;
 
-/// Seconds between two looks whether a neighbour floods the run.
-const LOOK: u64 = 1;
+/// Whether so much time hasn't passed yet since that began, where it is limited and both times are known.
+fn is_within(limit: Option<Duration>, begun: Option<Duration>, now: Option<Duration>) -> bool {
+    match (limit, begun, now) {
+        (Some(limit), Some(begun), Some(now)) => now.saturating_sub(begun) < limit,
+        _ => false,
+    }
+}
 
 /// Who calls the peer of this link.
 #[derive(Drop)]
@@ -37,24 +42,13 @@ struct Caller<'a, 's, N, G, A: Allocator = Global> {
     watch: &'a G,
 }
 
-impl<
+impl<'a, 's, N: Net<Listener = TcpListener, Stream = TcpStream>, G, A: Allocator> Caller<
     'a,
     's,
-    N: Wait + Net<Listener = TcpListener, Stream = TcpStream> + Clock,
-    G: Watch,
-    A: Allocator,
-> Caller<'a, 's, N, G, A> {
-    /// Whether a peer that couldn't be called is called again, where that began by then.
-    fn calls_again(&self, begun: Option<Instant>) -> bool {
-        match (self.serving.retry, begun) {
-            (Some(limit), Some(begun)) => match begun.elapsed(self.net) {
-                Ok(since) => since < limit,
-                Err(_) => false,
-            },
-            _ => false,
-        }
-    }
-
+    N,
+    G,
+    A,
+> {
     /// Calls the peer, which has to answer within a second. One on another machine is called only where the run calls such ones.
     fn try_call(&self) -> Result<TcpLink<'static>, Unmet>
         ensures near { self.now.serving.calls_far ≡ false → OnOk result (IsLoopback self.now.peer) }
@@ -66,20 +60,34 @@ impl<
             TcpLink::try_call(self.net, self.peer, limit)
         }
     }
+}
 
+impl<
+    'a,
+    's,
+    N: Wait + Net<Listener = TcpListener, Stream = TcpStream> + Clock,
+    G,
+    A: Allocator,
+> Caller<'a, 's, N, G, A> {
     /// Calls the peer, again until it listens or the time for that is over; where the system has no handle for it, until that has one.
     /// Where the run is stopped the peer never comes.
     fn call(&self) -> Result<TcpLink<'static>, Unmet> {
-        let begun = Instant::now(self.net).ok();
+        let begun = self.stops.now(self.net);
         for _ in 0..u64::MAX {
             if self.stops.lets_go() {
                 break;
             }
             match self.try_call() {
                 Ok(found) => return Ok(found),
-                Err(unmet) if unmet.wants_handle => pause(self.net),
-                Err(_) if self.calls_again(begun) || self.stops.lets_go() => pause(self.net),
-                Err(unmet) => return Err(unmet),
+                Err(unmet) => {
+                    let now = self.stops.now(self.net);
+                    let is_patient = unmet.wants_handle
+                        || is_within(self.serving.retry, begun, now);
+                    if !is_patient && !self.stops.lets_go() {
+                        return Err(unmet);
+                    }
+                    pause(self.net);
+                }
             }
         }
         Ok(TcpLink::missing(Role::Calling, Some(self.peer)))
@@ -119,7 +127,9 @@ impl<
         }
         TcpLink::missing(Role::Calling, Some(self.peer))
     }
+}
 
+impl<'a, 's, N: Wait + Clock, G: Watch, A: Allocator> Caller<'a, 's, N, G, A> {
     /// The halves of the called link go on over the socket of this one.
     fn answer(&self, found: TcpLink<'static>, call: TcpCall) {
         match registered(self.net, self.stops, self.link, found) {
@@ -141,10 +151,18 @@ impl<
             }
         }
     }
+}
 
+impl<
+    'a,
+    's,
+    N: Wait + Net<Listener = TcpListener, Stream = TcpStream> + Clock,
+    G: Watch,
+    A: Allocator,
+> Caller<'a, 's, N, G, A> {
     /// Calls the peer, and tells both halves of the called link how that ended. The run ends where the peer can't be called and isn't
     /// called again.
-    fn run(self, call: TcpCall) {
+    fn run(&self, call: TcpCall) {
         if self.stops.callees.again {
             let found = self.call_on();
             self.answer(found, call);
@@ -180,6 +198,15 @@ fn call_next<
     }
 }
 
+/// How long it is until the others of these calls are tried again that were asked for, if so many were begun.
+fn pause_of(started: u64, asked: u64) -> Option<Duration> {
+    if started < asked {
+        Some(moment())
+    } else {
+        None
+    }
+}
+
 /// What the threads are started with that call the peers of a run, and accept its callers.
 #[derive(Drop)]
 pub(crate) struct Callers<'a, 's, E, N, G, A: Allocator = Global> {
@@ -194,6 +221,36 @@ pub(crate) struct Callers<'a, 's, E, N, G, A: Allocator = Global> {
     pub reminder: Option<&'a Reminder<'a>>,
 }
 
+impl<'a, 's, E, N: Wait, G, A: Allocator> Callers<'a, 's, E, N, G, A> {
+    /// Where the run is stopped, who accepts callers, who waits for them, and who waits to call a peer look again.
+    fn wake_others(&self) {
+        if let Some(accepter) = self.accepter
+            && self.stops.is_stopped()
+        {
+            accepter.doorstep.wake(self.net);
+            self.stops.callees.wake(self.net);
+        }
+    }
+}
+
+impl<
+    'a,
+    's,
+    E: 'a,
+    N: Threads + Wait + Clock + Sync + 'a,
+    G,
+    A: Allocator + Send + Sync + 'a,
+> Callers<'a, 's, E, N, G, A> {
+    /// Starts who accepts callers. Where no thread can be made for it the run has failed.
+    fn start_accepter(&self) {
+        if let Some(accepter) = self.accepter {
+            if self.scope.spawn(move || accepter.run()).is_err() {
+                self.stops.lack_memory();
+            }
+        }
+    }
+}
+
 impl<
     'a,
     's: 'a,
@@ -206,19 +263,18 @@ impl<
     /// stopped. Whether it isn't left.
     fn start_one(&self) -> bool {
         let (net, serving, stops, watch) = (self.net, self.serving, self.stops, self.watch);
-        let started = self
+        let has_started = self
             .scope
-            .spawn(move || call_next(net, serving, stops, watch));
-        if started.is_ok() {
+            .spawn(move || call_next(net, serving, stops, watch))
+            .is_ok();
+        if has_started {
             return true;
         }
-        if !stops.is_stopped() {
-            return false;
+        let is_stopped = stops.is_stopped();
+        if is_stopped {
+            stops.give_up_next(net);
         }
-        if let Some(asked) = stops.next_call(net) {
-            asked.call.give_up(net);
-        }
-        true
+        is_stopped
     }
 
     /// Starts who calls the peers that were asked for since so many calls were begun. How many are by now: less than were asked for where
@@ -233,97 +289,21 @@ impl<
         asked
     }
 
-    /// How long it is, where so many calls were begun, until the others are tried again, if there are any.
-    fn again(&self, started: u64) -> Option<Duration> {
-        if started < self.stops.asked() {
-            Some(moment())
-        } else {
-            None
-        }
-    }
-
-    /// Starts who accepts callers. Where no thread can be made for it the run has failed.
-    fn start_accepter(&self) {
-        if let Some(accepter) = self.accepter {
-            let started = self.scope.spawn(move || accepter.run());
-            if started.is_err() {
-                self.stops.lack_memory();
-            }
-        }
-    }
-
-    /// Where the run is stopped, who accepts callers, who waits for them, and who waits to call a peer look again.
-    fn wake_others(&self) {
-        if let Some(accepter) = self.accepter
-            && self.stops.is_stopped()
-        {
-            accepter.doorstep.wake(self.net);
-            self.stops.callees.wake(self.net);
-        }
-    }
-
-    /// Reminds the run where the time has come at which a Ping is due. When the next one is due, since the run began.
-    fn remind(&self, due: Option<Duration>) -> Option<Duration> {
-        let reminder = self.reminder?;
-        let every = reminder.every()?;
-        let now = self.stops.now(self.net)?;
-        if let Some(due) = due {
-            if now < due {
-                return Some(due);
-            }
-            reminder.remind(self.net);
-        }
-        Some(now.saturating_add(every))
-    }
-
-    /// Lets this neighbour go, which floods the run.
-    fn let_go(&self, flood: Flood) {
-        if let Some(peer) = self.stops.let_go(self.net, flood.link) {
-            self.watch.flooded(flood.link, peer, flood.seconds);
-        }
-    }
-
-    /// Lets each neighbour go that has flooded the run for as long as it may, where the time of the next look has come. When the next one
-    /// comes, since the run began.
-    fn stem(&self, due: Option<Duration>) -> Option<Duration> {
-        let floods = self.stops.floods.as_ref()?;
-        let now = self.stops.now(self.net)?;
-        if let Some(due) = due {
-            if now < due {
-                return Some(due);
-            }
-            for slot in 0..SLOTS {
-                if let Some(flood) = floods.look(slot) {
-                    self.let_go(flood);
-                }
-            }
-        }
-        Some(now.saturating_add(Duration::from_secs(LOOK)))
-    }
-
-    /// How long it is until this time, since the run began.
-    fn until(&self, due: Option<Duration>) -> Option<Duration> {
-        let now = self.stops.now(self.net)?;
-        Some(due?.saturating_sub(now))
-    }
-
     /// Starts who accepts callers, and who calls a peer of the run, as that asks for it; stops the run where its time is over, shuts each link whose peer
     /// has had its grace or floods the run, says when a Ping is due, and tells who watches that the run goes on. It returns once the run is over.
     pub(crate) fn watch(&self) {
         self.start_accepter();
         let mut started = 0;
-        let (mut due, mut look) = (None, None);
+        let mut looks = Looks::new(self.reminder, &self.stops.floods);
         for _ in self.net.forever() {
             if self.stops.is_over() {
                 return;
             }
             started = self.start_new(started);
             self.wake_others();
-            due = self.remind(due);
-            look = self.stem(look);
-            let tick = earlier(self.watch.tick(), self.until(earlier(due, look)));
-            self.stops
-                .turn(self.net, earlier(tick, self.again(started)));
+            let next = looks.look(self.net, self.stops, self.watch);
+            let next = earlier(next, pause_of(started, self.stops.asked()));
+            self.stops.turn(self.net, earlier(self.watch.tick(), next));
         }
     }
 }

@@ -13,9 +13,16 @@ use gn_tcp::{TcpLink, Unmet};
 use gn_threads::RunFault;
 use std::alloc::{Allocator, Global};
 use std::io::ErrorKind;
-use std::net::{Net, SocketAddr, TcpListener, TcpStream};
+use std::net::{SocketAddr, TcpListener};
 use std::sync::Wait;
 use std::time::Clock;
+
+/// Whether nobody can be accepted, for this reason, but may be later: all but a listener that is shut, or that doesn't wait. The system
+/// may have no handle or memory left, the caller may have gone, and accept(2) has the faults of a caller's network, too.
+fn waits_on(unmet: Unmet) -> bool {
+    let is_unfit = matches!(unmet.why, ErrorKind::InvalidInput | ErrorKind::WouldBlock);
+    unmet.wants_handle || !is_unfit
+}
 
 /// Where the links of a run come in.
 #[derive(Drop)]
@@ -28,11 +35,7 @@ pub(crate) struct Entrance<'a, N, A: Allocator = Global> {
     pub stops: &'a Stops<'a, A>,
 }
 
-impl<'a, N: Wait + Net<Listener = TcpListener, Stream = TcpStream> + Clock, A: Allocator> Entrance<
-    'a,
-    N,
-    A,
-> {
+impl<'a, N, A: Allocator> Entrance<'a, N, A> {
     /// That of a run of this listener, which these stop.
     pub(crate) fn new(
         net: &'a N,
@@ -55,7 +58,9 @@ impl<'a, N: Wait + Net<Listener = TcpListener, Stream = TcpStream> + Clock, A: A
         self.stops.fail();
         fault
     }
+}
 
+impl<'a, N: Wait, A: Allocator> Entrance<'a, N, A> {
     /// The link of this number to this peer, which is called from now on. Where the run has failed nobody is, and none comes.
     pub(crate) fn called(&self, link: u32, peer: SocketAddr) -> Result<TcpLink<'static>, RunFault>
         ensures found { IfOk result (λ found. (found.role ≡ Calling)
@@ -73,14 +78,9 @@ impl<'a, N: Wait + Net<Listener = TcpListener, Stream = TcpStream> + Clock, A: A
             Err(_) => Err(self.failing(RunFault::NoMemory)),
         }
     }
+}
 
-    /// Whether nobody can be accepted, for this reason, but may be later: all but a listener that is shut, or that doesn't wait. The system
-    /// may have no handle or memory left, the caller may have gone, and accept(2) has the faults of a caller's network, too.
-    fn waits_on(unmet: Unmet) -> bool {
-        let is_unfit = matches!(unmet.why, ErrorKind::InvalidInput | ErrorKind::WouldBlock);
-        unmet.wants_handle || !is_unfit
-    }
-
+impl<'a, N: Wait + Clock, A: Allocator> Entrance<'a, N, A> {
     /// Waits for a caller. Where the run is stopped nobody comes.
     pub(crate) fn accept(&self) -> Result<TcpLink<'static>, LinkFault>
         ensures { IfOk result (λ found. (found.role ≡ Accepting)
@@ -95,7 +95,7 @@ impl<'a, N: Wait + Net<Listener = TcpListener, Stream = TcpStream> + Clock, A: A
             }
             match TcpLink::try_accept(self.listener) {
                 Ok(found) => return Ok(found),
-                Err(unmet) if Self::waits_on(unmet) || self.stops.is_stopped() => pause(self.net),
+                Err(unmet) if waits_on(unmet) || self.stops.is_stopped() => pause(self.net),
                 Err(_) => break,
             }
         }

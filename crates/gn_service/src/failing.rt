@@ -1,6 +1,6 @@
 //! How a run over TCP fails for a peer that can't be called.
 
-ghost use Rattle.std.specs.Prelude.{◌≡◌, ◌≢◌, ◌⊎◌, ◌≤◌, ℕ, true, IfSome, Some};
+ghost use Rattle.std.specs.Prelude.{◌≡◌, ◌≢◌, ◌⊎◌, ◌≤◌, ℕ, true, IfSome, MatchResult, Some};
 ghost use Rattle.gn_service.specs.Tallies.{tallies_of};
 ghost use Rattle.gn_start.specs.declared.fault.RunFault.TheVariants.{BadWorkers, HistoryFull};
 ghost use Rattle.gn_start.specs.Faults.{IsArrivingFault};
@@ -27,7 +27,7 @@ pub(crate) fn call_fault<A: Allocator>(stops: &Stops<'_, A>, calls: usize) -> Op
 }
 
 /// The run of this account, which has failed.
-pub(crate) fn failed_at<'s, A: Allocator + Copy>(
+fn failed_at<'s, A: Allocator + Copy>(
     alloc: A,
     account: Account<TcpReader<'s>, TcpWriter, A>,
     fault: RunFault,
@@ -52,7 +52,7 @@ pub(crate) fn failed_at<'s, A: Allocator + Copy>(
 }
 
 /// The run of this account of links that came one after another, which has failed.
-pub(crate) fn cut_at<'s, A: Allocator + Copy>(
+fn cut_at<'s, A: Allocator + Copy>(
     account: OpenAccount<TcpReader<'s>, TcpWriter, A>,
     fault: RunFault,
 ) -> Halted<A>
@@ -85,7 +85,7 @@ fn first_of(found: RunFault, later: RunFault) -> RunFault
 }
 
 /// The run that stopped so, and has failed for this, too.
-pub(crate) fn failed_too<A: Allocator>(halted: Halted<A>, fault: RunFault) -> Halted<A>
+fn failed_too<A: Allocator>(halted: Halted<A>, fault: RunFault) -> Halted<A>
     ensures fault { (result.fault ≡ halted.fault) ⊎ ((result.fault ≡ fault) × (halted.fault ≢ BadWorkers)) }
     ensures same { (result.history ≡ halted.history) × (result.links ≡ halted.links) }
 {
@@ -93,5 +93,41 @@ pub(crate) fn failed_too<A: Allocator>(halted: Halted<A>, fault: RunFault) -> Ha
         fault: first_of(halted.fault, fault),
         history: halted.history,
         links: halted.links,
+    }
+}
+
+/// The run that answered so, and has failed for this.
+pub(crate) fn failed_for<'s, A: Allocator + Copy>(
+    alloc: A,
+    answer: Result<Account<TcpReader<'s>, TcpWriter, A>, Halted<A>>,
+    fault: RunFault,
+) -> Halted<A>
+    ensures fault { MatchResult answer.entry (λ _. result.fault ≡ fault)
+        (λ halted. (result.fault ≡ halted.fault) ⊎ ((result.fault ≡ fault) × (halted.fault ≢ BadWorkers))) }
+    ensures history { MatchResult answer.entry (λ account. result.history ≡ Some account.history)
+        (λ halted. result.history ≡ halted.history) }
+    ensures tallies { MatchResult answer.entry
+        (λ account. IfSome result.links (λ tallies. tallies.items ≡ tallies_of account.links.items))
+        (λ halted. result.links ≡ halted.links) }
+{
+    match answer {
+        Ok(account) => failed_at(alloc, account, fault),
+        Err(halted) => failed_too(halted, fault),
+    }
+}
+
+/// The run of links that came one after another that answered so, and has failed for this.
+pub(crate) fn cut_for<'s, A: Allocator + Copy>(
+    answer: Result<OpenAccount<TcpReader<'s>, TcpWriter, A>, Halted<A>>,
+    fault: RunFault,
+) -> Halted<A>
+    ensures fault { MatchResult answer.entry (λ _. result.fault ≡ fault)
+        (λ halted. (result.fault ≡ halted.fault) ⊎ ((result.fault ≡ fault) × (halted.fault ≢ BadWorkers))) }
+    ensures history { MatchResult answer.entry (λ account. result.history ≡ Some account.history)
+        (λ halted. result.history ≡ halted.history) }
+{
+    match answer {
+        Ok(account) => cut_at(account, fault),
+        Err(halted) => failed_too(halted, fault),
     }
 }

@@ -14,6 +14,7 @@ mod failing;
 mod floods;
 mod host;
 mod live;
+mod looks;
 mod newcomers;
 mod owed;
 mod parting;

@@ -12,6 +12,7 @@ use crate::doorstep::{Doorstep, Guest};
 use crate::entrance::Entrance;
 use crate::past::{Past, Recalling};
 use crate::pings::Pinging;
+use crate::registering::ended_by;
 use crate::serving::Serving;
 use gn_links::{Link, Place, Watch};
 use gn_room::Waiting;
@@ -19,9 +20,8 @@ use gn_rules::{Receipt, Refusal};
 use gn_start::{Coming, Incoming, NewLink, Recall, RunFault};
 use gn_tcp::{Socket, TcpLink, TcpOrigin, TcpReader, TcpWriter};
 use std::alloc::{Allocator, Global};
-use std::net::{Net, SocketAddr, TcpListener, TcpStream};
+use std::net::SocketAddr;
 use std::sync::Wait;
-use std::time::Clock;
 
 /// The steps of before, the peers that are called, and the doorstep on which the others come.
 pub(crate) struct Newcomers<'a, 's, N, G, P: Drop, A: Allocator = Global> {
@@ -62,14 +62,7 @@ impl<'a, 's, N, G, P: Drop, A: Allocator> Drop for Newcomers<'a, 's, N, G, P, A>
     }
 }
 
-impl<
-    'a,
-    's,
-    N: Wait + Net<Listener = TcpListener, Stream = TcpStream> + Clock,
-    G: Watch,
-    P: Drop,
-    A: Allocator,
-> Newcomers<'a, 's, N, G, P, A> {
+impl<'a, 's, N: Wait, G, P: Drop, A: Allocator> Newcomers<'a, 's, N, G, P, A> {
     /// The guest, as this link, which ends with the run. The fault is out of memory.
     fn registered(&self, link: u32, guest: Guest) -> Result<TcpLink<'static>, RunFault>
         ensures found { IfOk result (λ found. (found.role ≡ Accepting)
@@ -77,11 +70,7 @@ impl<
         ensures fault { IfErr result (λ fault. (links workers : ℕ) → IsArrivingFault true links workers fault) }
     {
         let (found, stopper) = guest.into_parts();
-        let (net, peer) = (self.entrance.net, found.peer());
-        match self.entrance.stops.add(net, link, peer, stopper) {
-            Ok(()) => Ok(found),
-            Err(_) => Err(self.entrance.failing(RunFault::NoMemory)),
-        }
+        ended_by(self.entrance.net, self.entrance.stops, link, found, stopper)
     }
 
     /// Has this peer, which stands in this place among them, called over this link.
@@ -138,19 +127,6 @@ impl<
         self.meet_guest(link)
     }
 
-    /// The link in this place, numbered, which reads and ends as the run's links do.
-    fn placed(&self, place: Place, found: TcpLink<'static>) -> TcpLink<'s>
-        ensures { (result.role ≡ found.entry.role)
-            × (result.origin ≡ record found.entry.origin { link = place.link }) }
-    {
-        found
-            .numbered(place.link)
-            .with_idle(self.serving.idle)
-            .with_stop(self.serving.flag())
-            .with_brake(self.serving.brake(), place.slot)
-            .lingering()
-    }
-
     /// The link of this number, in this slot, split, if its peer has come or is called. The fault names this other number, by which the run
     /// knows the link.
     fn new_link(
@@ -166,7 +142,7 @@ impl<
             return Ok(None);
         };
         let role = found.role();
-        match self.placed(place, found).split() {
+        match self.serving.placed(place, found).split() {
             Ok((reader, writer)) => Ok(Some(NewLink {
                 role,
                 reader,
@@ -177,14 +153,7 @@ impl<
     }
 }
 
-impl<
-    'a,
-    's,
-    N: Wait + Net<Listener = TcpListener, Stream = TcpStream> + Clock,
-    G: Watch,
-    P: Past,
-    A: Allocator,
-> Incoming for Newcomers<'a, 's, N, G, P, A> {
+impl<'a, 's, N: Wait, G: Watch, P: Past, A: Allocator> Incoming for Newcomers<'a, 's, N, G, P, A> {
     ghost use Rattle.std.specs.Prelude.{◌+◌, ⊤, false, is_some, true};
     ghost use Rattle.gn_service.specs.Any.{IsLinkOf};
 
@@ -212,13 +181,13 @@ impl<
 
     /// Who watches learns, once all are made, how many steps are left.
     fn recall<B: Allocator + Copy>(&mut self, alloc: B) -> Result<Option<Recall<B>>, RunFault> {
-        let recall = self.recalling.past.recall(alloc)?;
-        if recall.is_none()
+        let recall = self.recalling.past.recall(alloc);
+        if matches!(recall, Ok(None))
             && let Some(left) = self.recalling.left()
         {
             self.watch.open(left);
         }
-        Ok(recall)
+        recall
     }
 
     fn recalled<B: Allocator + Copy>(

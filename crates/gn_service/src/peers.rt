@@ -8,13 +8,13 @@ ghost use Rattle.gn_service.specs.Links.{roles_of};
 
 use crate::entrance::Entrance;
 use crate::serving::Serving;
-use gn_links::{Link, Watch};
+use gn_links::{Link, Place, Watch};
 use gn_rules::MOST_LINKS;
 use gn_shake::Role;
 use gn_tcp::{Socket, TcpLink, TcpOrigin, TcpReader, TcpWriter};
 use gn_threads::{Arrivals, RunFault};
 use std::alloc::{Allocator, Global};
-use std::net::{Net, SocketAddr, TcpListener, TcpStream};
+use std::net::SocketAddr;
 use std::sync::Wait;
 use std::time::Clock;
 
@@ -59,13 +59,19 @@ pub(crate) fn roles_of(calls: usize, links: usize) -> [Role; MOST_LINKS]
     roles
 }
 
-impl<
-    'a,
-    's,
-    N: Wait + Net<Listener = TcpListener, Stream = TcpStream> + Clock,
-    G: Watch,
-    A: Allocator,
-> Peers<'a, 's, N, G, A> {
+impl<'a, 's, N: Wait, G: Watch, A: Allocator> Peers<'a, 's, N, G, A> {
+    /// Tells who watches of a caller that has come, and calls no more callers in where it was the last.
+    fn tell(&self, link: u32, reader: &TcpReader<'s>) {
+        if self.left == 0 {
+            self.entrance.stops.close_listener();
+        }
+        if !reader.is_missing() {
+            self.watch.came(self.entrance.net, link, reader.peer());
+        }
+    }
+}
+
+impl<'a, 's, N: Wait + Clock, G, A: Allocator> Peers<'a, 's, N, G, A> {
     /// Has the peer of this link called, or waits for one that calls.
     fn meet(&self, link: u32, role: Role) -> Result<TcpLink<'static>, RunFault>
         ensures found { IfOk result (λ found. (found.role ≡ role)
@@ -79,25 +85,9 @@ impl<
             _ => Err(RunFault::Link(link)),
         }
     }
-
-    /// Tells who watches of a caller that has come, and calls no more callers in where it was the last.
-    fn tell(&self, link: u32, reader: &TcpReader<'s>) {
-        if self.left == 0 {
-            self.entrance.stops.close_listener();
-        }
-        if !reader.is_missing() {
-            self.watch.came(self.entrance.net, link, reader.peer());
-        }
-    }
 }
 
-impl<
-    'a,
-    's,
-    N: Wait + Net<Listener = TcpListener, Stream = TcpStream> + Clock,
-    G: Watch,
-    A: Allocator,
-> Arrivals for Peers<'a, 's, N, G, A> {
+impl<'a, 's, N: Wait + Clock, G: Watch, A: Allocator> Arrivals for Peers<'a, 's, N, G, A> {
     ghost use Rattle.gn_service.specs.Links.{origins_from};
     ghost use Rattle.std.specs.Prelude.{true};
 
@@ -123,13 +113,8 @@ impl<
         if link != self.next {
             return Err(RunFault::Link(link));
         }
-        let found = self
-            .meet(link, role)?
-            .numbered(link)
-            .with_idle(self.serving.idle)
-            .with_stop(self.serving.flag())
-            .with_brake(self.serving.brake(), link)
-            .lingering();
+        let place = Place { link, slot: link };
+        let found = self.serving.placed(place, self.meet(link, role)?);
         let Ok(halves) = found.split() else {
             return Err(self.entrance.failing(RunFault::Link(link)));
         };

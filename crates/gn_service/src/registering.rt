@@ -81,6 +81,26 @@ pub(crate) fn threads_come<N: Threads + Clock, A: Allocator>(
     false
 }
 
+/// The link, which ends with the run by this. At a fault the links that have come are let go at once.
+pub(crate) fn ended_by<N: Wait, A: Allocator>(
+    net: &N,
+    stops: &Stops<'_, A>,
+    link: u32,
+    found: TcpLink<'static>,
+    stopper: TcpStopper,
+) -> Result<TcpLink<'static>, RunFault>
+    ensures same { IfOk result (λ same. (same.role ≡ found.entry.role) × (same.origin ≡ found.entry.origin)) }
+    ensures fault { IfErr result (λ fault. (links workers : ℕ) → IsArrivingFault true links workers fault) }
+{
+    match stops.add(net, link, found.peer(), stopper) {
+        Ok(()) => Ok(found),
+        Err(_) => {
+            stops.fail();
+            Err(RunFault::NoMemory)
+        }
+    }
+}
+
 /// The link, which ends with the run. Its peer is let go where the run is stopped before. At a fault the links that have come are
 /// let go at once.
 pub(crate) fn registered<N: Wait + Clock, A: Allocator>(
@@ -96,15 +116,8 @@ pub(crate) fn registered<N: Wait + Clock, A: Allocator>(
         return Ok(found);
     }
     let mut found = found;
-    let peer = found.peer();
-    let Some(stopper) = stopper_of(net, stops, &mut found) else {
-        return Ok(found.without_peer());
-    };
-    match stops.add(net, link, peer, stopper) {
-        Ok(()) => Ok(found),
-        Err(_) => {
-            stops.fail();
-            Err(RunFault::NoMemory)
-        }
+    match stopper_of(net, stops, &mut found) {
+        Some(stopper) => ended_by(net, stops, link, found, stopper),
+        None => Ok(found.without_peer()),
     }
 }

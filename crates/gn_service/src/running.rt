@@ -9,9 +9,8 @@ use crate::accepting::Accepter;
 use crate::calling::Callers;
 use crate::counted::Counted;
 use crate::entrance::Entrance;
-use crate::failing::{call_fault, failed_at, failed_too};
+use crate::failing::{call_fault, failed_for};
 use crate::host::Host;
-use crate::owed::Owed;
 use crate::peers::{Peers, roles_of};
 use crate::pings::Reminder;
 use crate::serving::{Serve, Serving};
@@ -40,6 +39,14 @@ pub(crate) struct Running<'a, 's, C: RouterCore<A>, W, G, R, A: Allocator + Copy
     pub ghost empty: { C.steps routing.core ≡ [] },
 }
 
+impl<'a, 's, C: RouterCore<A>, W, G, R, A: Allocator + Copy> Running<'a, 's, C, W, G, R, A> {
+    /// How many links it has.
+    fn links(&self) -> u32 {
+        let calls = self.serve.peers.len() as u32;
+        calls.saturating_add(self.serve.accept)
+    }
+}
+
 impl<
     'a,
     's,
@@ -52,12 +59,6 @@ impl<
 where
     W::Followed: Send + Drop,
 {
-    /// How many links it has.
-    fn links(&self) -> u32 {
-        let calls = self.serve.peers.len() as u32;
-        calls.saturating_add(self.serve.accept)
-    }
-
     /// Runs the router, and calls the peers beside it.
     pub(crate) fn watched(
         self,
@@ -73,13 +74,7 @@ where
         let serving = &self.serve.limits;
         let watch = self.serve.watch;
         let own = Stop::new(None, false);
-        let stop = match serving.stop {
-            Some(stop) => stop,
-            None => &own,
-        };
-        let listener = self.serve.listener;
-        let owed = Owed::of(self.serve, stop, self.links());
-        let stops = Stops::new(rt, self.alloc, stop, serving, listener, false, owed);
+        let stops = Stops::new(rt, self.alloc, self.serve, &own, false, self.links());
         let stops = &stops;
         run_watched(
             rt,
@@ -92,7 +87,20 @@ where
             { self.run(stops) },
         )
     }
+}
 
+impl<
+    'a,
+    's,
+    C: RouterCore<A> + Drop + Send,
+    W: Course<C, A> + Send + Drop,
+    G: Watch + Sync,
+    R: Threads + Wait + Clock + AllocGlobal + Sync,
+    A: Allocator + Copy + Send + Sync,
+> Running<'a, 's, C, W, G, R, A>
+where
+    W::Followed: Send + Drop,
+{
     /// Runs the router, until `stops` ends it where it is stopped. Where one of its calls fails the run has failed, whatever it answers.
     fn run(
         self,
@@ -107,10 +115,9 @@ where
     {
         let (alloc, calls) = (self.alloc, self.serve.peers.len());
         let (answer, rest) = self.over_links(stops);
-        match (answer, call_fault(stops, calls)) {
-            (answer, None) => (answer, rest),
-            (Ok(account), Some(fault)) => (Err(failed_at(alloc, account, fault)), rest),
-            (Err(halted), Some(fault)) => (Err(failed_too(halted, fault)), rest),
+        match call_fault(stops, calls) {
+            Some(fault) => (Err(failed_for(alloc, answer, fault)), rest),
+            None => (answer, rest),
         }
     }
 
@@ -176,7 +183,7 @@ fn begin<G: Watch, A: Allocator>(watch: &G, numbers: &Numbers, accept: u32, stop
 pub(crate) fn watch_and_call<
     'x,
     G: Watch + Sync,
-    A: Allocator + Copy + Send + Sync,
+    A: Allocator + Send + Sync,
     R: Threads + Wait + Net<Listener = TcpListener, Stream = TcpStream> + Clock + Sync,
 >(
     rt: &'x R,

@@ -5,8 +5,9 @@ ghost use Rattle.std.specs.Prelude.{◌≡◌};
 use crate::pings::Pings;
 use crate::stop::Stop;
 use gn_hub::Batch;
+use gn_links::Place;
 use gn_rules::Config;
-use gn_tcp::Brake;
+use gn_tcp::{Brake, TcpLink};
 use std::net::{SocketAddr, TcpListener};
 use std::sync::atomic::AtomicBool;
 use std::time::Duration;
@@ -116,6 +117,19 @@ impl<'s> Serving<'s> {
     /// What is set once the run is stopped, where it may be.
     pub(crate) fn flag(&self) -> Option<&'s AtomicBool> {
         Some(self.stop?.flag())
+    }
+
+    /// A link in this place among those of the run, numbered, which reads and ends as they do.
+    pub(crate) fn placed(&self, place: Place, found: TcpLink<'static>) -> TcpLink<'s>
+        ensures { (result.role ≡ found.entry.role)
+            × (result.origin ≡ record found.entry.origin { link = place.link }) }
+    {
+        found
+            .numbered(place.link)
+            .with_idle(self.idle)
+            .with_stop(self.flag())
+            .with_brake(self.brake(), place.slot)
+            .lingering()
     }
 
     /// What is set once the run's readers have to read little at a time, where it may be.

@@ -5,12 +5,12 @@ use crate::callees::Callees;
 use crate::floods::Floods;
 use crate::live::LiveLinks;
 use crate::owed::{Nearness, Owed};
-use crate::serving::Serving;
+use crate::serving::Serve;
 use crate::stop::{Stop, earlier};
 use gn_links::Half;
 use gn_tcp::{ListenerStopper, TcpStopper};
 use std::alloc::{AllocError, Allocator, Global};
-use std::net::{SocketAddr, TcpListener};
+use std::net::SocketAddr;
 use std::sync::atomic::{AtomicBool, AtomicU64, Ordering};
 use std::sync::{Mutex, Wait};
 use std::time::{Clock, Duration, Instant};
@@ -64,7 +64,7 @@ impl<'a, A: Allocator> Drop for Stops<'a, A> {
 }
 
 /// When so much time has passed after now, where both are known.
-fn later(now: Option<Duration>, tick: Option<Duration>) -> Option<Duration> {
+pub(crate) fn later(now: Option<Duration>, tick: Option<Duration>) -> Option<Duration> {
     match (now, tick) {
         (Some(now), Some(tick)) => Some(now.saturating_add(tick)),
         _ => None,
@@ -72,26 +72,31 @@ fn later(now: Option<Duration>, tick: Option<Duration>) -> Option<Duration> {
 }
 
 impl<'a, A: Allocator> Stops<'a, A> {
-    /// Of a run that begins, which goes on and waits so, owes this, and calls its peers again or not: no link has come yet.
-    pub(crate) fn new<R: Clock>(
+    /// Of a run that begins, which is asked for so, by its own stop where it is given none, calls its peers again or not, and of whose links
+    /// so many may be connected at a time: no link has come yet.
+    pub(crate) fn new<R: Clock, G, M>(
         rt: &R,
         alloc: A,
-        stop: &'a Stop,
-        serving: &Serving<'_>,
-        listener: &TcpListener,
+        serve: &Serve<'_, 'a, G, M>,
+        own: &'a Stop,
         again: bool,
-        owed: Option<Owed>,
+        links: u32,
     ) -> Self
     where
         A: Copy,
     {
+        let serving = &serve.limits;
+        let stop = match serving.stop {
+            Some(stop) => stop,
+            None => own,
+        };
         Stops {
             stop,
             grace: serving.grace(),
             begun: Instant::now(rt).ok(),
-            listener: ListenerStopper::of(listener).ok(),
+            listener: ListenerStopper::of(serve.listener).ok(),
             links: Mutex::new(LiveLinks::new(alloc)),
-            owed,
+            owed: Owed::of(serve, stop, links),
             floods: Floods::new(serving.flood),
             callees: Callees::new(alloc, again),
             calls: Mutex::new(Vec::new(alloc)),
@@ -126,7 +131,8 @@ impl<'a, A: Allocator> Stops<'a, A> {
 
     /// A peer is to be called by somebody.
     pub(crate) fn ask<R: Wait>(&self, rt: &R, asked: Asked) -> Result<(), AllocError> {
-        self.calls.lock(rt).push(asked)?;
+        let pushed = self.calls.lock(rt).push(asked);
+        pushed?;
         self.asked.fetch_add(1, Ordering::SeqCst);
         self.stop.wake();
         Ok(())
@@ -140,6 +146,13 @@ impl<'a, A: Allocator> Stops<'a, A> {
     /// A call that nobody has begun, which the caller begins.
     pub(crate) fn next_call<R: Wait>(&self, rt: &R) -> Option<Asked> {
         self.calls.lock(rt).pop()
+    }
+
+    /// A call that nobody has begun, if there is one, is given up.
+    pub(crate) fn give_up_next<R: Wait>(&self, rt: &R) {
+        if let Some(asked) = self.next_call(rt) {
+            asked.call.give_up(rt);
+        }
     }
 
     /// The peer of this link can't be called, for which the run fails.
@@ -211,7 +224,8 @@ impl<'a, A: Allocator> Stops<'a, A> {
         peer: SocketAddr,
         stopper: TcpStopper,
     ) -> Result<(), AllocError> {
-        self.links.lock(rt).add(link, peer, stopper)?;
+        let added = self.links.lock(rt).add(link, peer, stopper);
+        added?;
         if let Some(owed) = &self.owed {
             owed.came();
             self.look();
