@@ -54,7 +54,7 @@ or the history is wrong; 2 where the command line can't be read; 141 where whoev
 output has gone.";
 
 /// What a command line asks for.
-#[derive(Debug, Drop)]
+#[derive(Drop)]
 pub enum Request {
     /// A capture is replayed.
     Replay(Replay),

@@ -29,7 +29,7 @@ use std::marker::Model;
 use std::random::RandomSource;
 
 /// A run over TCP, as its options ask for it.
-#[derive(Debug, Drop)]
+#[derive(Drop)]
 pub struct ServeOptions {
     /// The port that the router listens on.
     pub port: u16,
@@ -126,7 +126,7 @@ impl Model for ServeOptions {
 }
 
 /// What is asked for of a serve.
-#[derive(Debug, Drop)]
+#[derive(Drop)]
 pub enum Serve {
     /// A router is run over TCP, and its history is written.
     Run(ServeOptions),
@@ -721,7 +721,7 @@ fn numbers_of(options: &ArgMatches<'_>) -> Result<Numbers, Unread>
 }
 
 /// What the own Pongs say that the router shares, and the port where its counts are asked for.
-#[derive(Clone, Copy, Debug)]
+#[derive(Clone, Copy)]
 struct Shared {
     files: u32,
     kilobytes: u32,
@@ -751,7 +751,7 @@ fn is_never_crowded(crowd: u32, stage: u32) -> bool
 
 /// How many seconds are between two Pings of the own servent, where it sends any; and how many callers of one address are let in within a
 /// minute, and for how many seconds a neighbour may flood the router, where these are limited.
-#[derive(Clone, Copy, Debug)]
+#[derive(Clone, Copy)]
 struct Rates {
     ping: Option<u32>,
     callers_a_minute: Option<u32>,
@@ -794,7 +794,7 @@ fn rates_of(
 }
 
 /// How long a serve waits and goes on, in seconds.
-#[derive(Clone, Copy, Debug)]
+#[derive(Clone, Copy)]
 struct Times {
     idle: Option<u32>,
     retry: Retry,
@@ -921,7 +921,7 @@ fn config_text(alloc: Global, serving: &ServeOptions) -> Result<Vec<u8>, AllocEr
         ("progress", Said::Flag(serving.progress)),
     ];
     let mut out = Vec::new(alloc);
-    push_rows(alloc, &mut out, &rows)?;
+    push_rows(&mut out, &rows)?;
     Ok(out)
 }
 

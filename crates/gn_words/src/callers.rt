@@ -1,6 +1,6 @@
 //! How many callers a serve takes.
 
-ghost use Rattle.std.specs.Prelude.{◌≡◌, IfOk, codes, false};
+ghost use Rattle.std.specs.Prelude.{◌≡◌, codes, false};
 ghost use Rattle.std.specs.Option.{option_map_or};
 ghost use Rattle.std.specs.Str.{bytes_eq};
 ghost use Rattle.clap.specs.Words.{found_of, rows_of};
@@ -9,9 +9,10 @@ ghost use Rattle.gn_words.specs.Options.{IsReadAs, accept_of};
 
 use crate::numbers::{NumberOption, asked};
 use crate::unread::Unread;
+use crate::value::Value;
 use clap::ArgMatches;
 use gn_text::push_number;
-use std::alloc::{AllocError, Global};
+use std::alloc::AllocError;
 
 /// What `--accept` takes beside `any`.
 const ACCEPT: NumberOption = NumberOption {
@@ -44,14 +45,17 @@ pub fn accept_of(options: &ArgMatches<'_>) -> Result<Option<u32>, Unread>
     }
 }
 
-/// What says how many callers are taken.
-pub(crate) fn callers_said(alloc: Global, accept: Option<u32>) -> Result<Vec<u8>, AllocError>
-    ensures { IfOk result (λ v. v.items ≡ callers_text accept) }
-{
-    let mut value = Vec::new(alloc);
-    match accept {
-        Some(accept) => push_number(&mut value, accept)?,
-        None => value.extend_from_slice(b"any")?,
+/// How many callers are taken, as it is printed.
+#[derive(Clone, Copy)]
+pub(crate) struct Callers(pub(crate) Option<u32>);
+
+impl Value for Callers {
+    ghost text = { λ callers. callers_text callers.0 };
+
+    fn push(&self, out: &mut Vec<u8>) -> Result<(), AllocError> {
+        match self.0 {
+            Some(accept) => push_number(out, accept),
+            None => out.extend_from_slice(b"any"),
+        }
     }
-    Ok(value)
 }

@@ -13,6 +13,7 @@ mod said;
 mod servent;
 mod site;
 mod unread;
+mod value;
 
 pub use callers::accept_of;
 pub use flags::is_set;

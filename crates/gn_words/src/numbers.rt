@@ -9,7 +9,7 @@ use clap::ArgMatches;
 use gn_text::number;
 
 /// An option that takes a number.
-#[derive(Clone, Copy, Debug)]
+#[derive(Clone, Copy)]
 pub struct NumberOption {
     /// The option's name.
     pub name: &'static str,

@@ -10,14 +10,14 @@ use clap::Command;
 use std::alloc::{AllocError, Global};
 
 /// Options under one heading of help; under the usual one, where it has none.
-#[derive(Clone, Copy, Debug)]
+#[derive(Clone, Copy)]
 pub struct Group {
     pub heading: Option<&'static str>,
     pub rows: &'static [OptionRow],
 }
 
 /// What help says of a command, and what it takes.
-#[derive(Clone, Copy, Debug)]
+#[derive(Clone, Copy)]
 pub struct Page {
     /// Its name.
     pub name: &'static str,

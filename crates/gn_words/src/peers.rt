@@ -3,20 +3,32 @@
 ghost use Rattle.std.specs.Prelude.{◌≡◌, ◌==◌, ◌||◌, ◌≤◌, [], length, map, IfOk, option_and_then};
 ghost use Rattle.std.specs.List.{slice_split};
 ghost use Rattle.clap.specs.Words.{found_of, rows_of};
+ghost use Rattle.gn_words.specs.ConfigTexts.{peer_text};
 ghost use Rattle.gn_words.specs.Options.{IsReadAs, is_near, peer_at, peer_of, peer_of_parts, peers_after, peers_in, peers_of};
 
 use crate::site::is_near;
 use crate::unread::Unread;
+use crate::value::Value;
 use clap::ArgMatches;
-use gn_text::{ip, number_u16};
+use gn_text::{ip, number_u16, push_ip, push_number};
 use std::alloc::{AllocError, Global};
 
 /// A peer that is called.
-#[derive(Clone, Copy, Debug, PartialEq, Eq)]
+#[derive(Clone, Copy)]
 pub struct Peer {
     /// The first byte is the first that is written between dots. It is 127, unless the router calls peers on other machines.
     pub ip: [u8; 4],
     pub port: u16,
+}
+
+impl Value for Peer {
+    ghost text = { peer_text };
+
+    fn push(&self, out: &mut Vec<u8>) -> Result<(), AllocError> {
+        push_ip(out, self.ip)?;
+        out.push(b':')?;
+        push_number(out, u32::from(self.port))
+    }
 }
 
 /// The most peers that are called.

@@ -1,6 +1,6 @@
 //! For how long a serve calls a peer again.
 
-ghost use Rattle.std.specs.Prelude.{◌≡◌, IfOk, codes, false};
+ghost use Rattle.std.specs.Prelude.{◌≡◌, codes, false};
 ghost use Rattle.std.specs.Option.{option_map_or};
 ghost use Rattle.std.specs.Str.{bytes_eq};
 ghost use Rattle.clap.specs.Words.{found_of, rows_of};
@@ -9,12 +9,13 @@ ghost use Rattle.gn_words.specs.Options.{IsReadAs, retry_for, retry_of, retry_wi
 
 use crate::numbers::{NumberOption, asked};
 use crate::unread::Unread;
+use crate::value::Value;
 use clap::ArgMatches;
 use gn_text::push_number;
-use std::alloc::{AllocError, Global};
+use std::alloc::AllocError;
 
 /// For how long a peer that can't be called is called again.
-#[derive(Clone, Copy, Debug, PartialEq, Eq)]
+#[derive(Clone, Copy)]
 pub enum Retry {
     /// It is called once.
     Never,
@@ -78,15 +79,14 @@ pub fn retry_with(accept: Option<u32>, retry: Retry) -> Result<Retry, Unread>
     }
 }
 
-/// What says for how long a peer is called again.
-pub(crate) fn retry_said(alloc: Global, retry: Retry) -> Result<Vec<u8>, AllocError>
-    ensures { IfOk result (λ v. v.items ≡ retry_text retry) }
-{
-    let mut value = Vec::new(alloc);
-    match retry {
-        Retry::Never => push_number(&mut value, 0)?,
-        Retry::For(seconds) => push_number(&mut value, seconds)?,
-        Retry::Always => value.extend_from_slice(b"always")?,
+impl Value for Retry {
+    ghost text = { retry_text };
+
+    fn push(&self, out: &mut Vec<u8>) -> Result<(), AllocError> {
+        match *self {
+            Retry::Never => push_number(out, 0),
+            Retry::For(seconds) => push_number(out, seconds),
+            Retry::Always => out.extend_from_slice(b"always"),
+        }
     }
-    Ok(value)
 }

@@ -9,7 +9,7 @@ use clap::{Arg, ArgAction, Command};
 use std::alloc::{AllocError, Global};
 
 /// What stands behind an option, under the name that help gives it.
-#[derive(Clone, Copy, Debug)]
+#[derive(Clone, Copy)]
 pub enum Takes {
     /// Nothing: it is a flag.
     Nothing,
@@ -24,7 +24,7 @@ pub enum Takes {
 }
 
 /// An option of a command.
-#[derive(Clone, Copy, Debug)]
+#[derive(Clone, Copy)]
 pub struct OptionRow {
     /// Its name, behind two hyphens.
     pub name: &'static str,

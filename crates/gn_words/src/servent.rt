@@ -2,15 +2,18 @@
 
 ghost use Rattle.std.specs.Prelude.{◌≡◌, option_and_then};
 ghost use Rattle.clap.specs.Words.{found_of, rows_of};
+ghost use Rattle.gn_words.specs.ConfigTexts.{servent_text};
 ghost use Rattle.gn_words.specs.Options.{IsReadAs, servent_in, servent_of};
 
 use crate::unread::Unread;
+use crate::value::Value;
 use clap::ArgMatches;
-use gn_text::guid;
+use gn_text::{guid, push_hex};
 use gn_wire::Guid;
+use std::alloc::AllocError;
 
 /// Who a router is.
-#[derive(Clone, Copy, Debug, PartialEq, Eq)]
+#[derive(Clone, Copy)]
 pub enum Servent {
     /// The servent of this ID.
     Given(Guid),
@@ -42,5 +45,16 @@ pub fn servent_of(options: &ArgMatches<'_>) -> Result<Servent, Unread>
     match servent_named(options.get_str("servent")) {
         Some(servent) => Ok(servent),
         None => Err(Unread::Mistake("--servent takes 32 hex digits, or random")),
+    }
+}
+
+impl Value for Servent {
+    ghost text = { servent_text };
+
+    fn push(&self, out: &mut Vec<u8>) -> Result<(), AllocError> {
+        match *self {
+            Servent::Given(id) => push_hex(out, &id.0),
+            Servent::Random => out.extend_from_slice(b"random"),
+        }
     }
 }

@@ -6,12 +6,13 @@ ghost use Rattle.gn_text.specs.Addresses.{ip_of, ip_text};
 ghost use Rattle.gn_words.specs.Options.{IsReadAs, calls_far, ip_asked, is_all, is_near, site_at, site_of};
 
 use crate::unread::Unread;
+use crate::value::Value;
 use clap::ArgMatches;
 use gn_text::{ip, push_ip};
 use std::alloc::{AllocError, Global};
 
 /// Where a router is.
-#[derive(Clone, Copy, Debug, PartialEq, Eq)]
+#[derive(Clone, Copy)]
 pub struct Site {
     /// The address at which it listens; 0.0.0.0: all those of its machine.
     pub bind: [u8; 4],
@@ -37,7 +38,7 @@ pub(crate) fn is_near(ip: [u8; 4]) -> bool
 }
 
 /// An option that takes an address.
-#[derive(Clone, Copy, Debug)]
+#[derive(Clone, Copy)]
 struct AddressOption {
     name: &'static str,
     /// What is said of any other value.
@@ -115,11 +116,14 @@ pub fn site_of(alloc: Global, options: &ArgMatches<'_>) -> Result<Site, Unread>
     site_at(bind, asked)
 }
 
-/// An address as it is written.
-pub(crate) fn address_said(alloc: Global, ip: [u8; 4]) -> Result<Vec<u8>, AllocError>
-    ensures { IfOk result (λ v. v.items ≡ ip_text ip) }
-{
-    let mut value = Vec::new(alloc);
-    push_ip(&mut value, ip)?;
-    Ok(value)
+/// An address, as it is printed.
+#[derive(Clone, Copy)]
+pub(crate) struct Address(pub(crate) [u8; 4]);
+
+impl Value for Address {
+    ghost text = { λ address. ip_text address.0 };
+
+    fn push(&self, out: &mut Vec<u8>) -> Result<(), AllocError> {
+        push_ip(out, self.0)
+    }
 }

@@ -6,7 +6,7 @@ ghost use Rattle.gn_words.specs.declared.unread.Unread.TheVariants.{NoMemory};
 use std::alloc::{AllocError, AllocFailed};
 
 /// Why options stand for no request.
-#[derive(Clone, Copy, Debug)]
+#[derive(Clone, Copy)]
 pub enum Unread {
     /// A value isn't within its limits: what the option takes, in words.
     Mistake(&'static str),
