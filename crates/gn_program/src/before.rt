@@ -1,18 +1,22 @@
 //! The history that a serve goes on with.
 
-ghost use Rattle.std.specs.Prelude.{◌≡◌, IfErr, true};
+ghost use Rattle.std.specs.Prelude.{◌≡◌, ℕ, IfErr, true};
+ghost use Rattle.gn_start.specs.Faults.{IsArrivingFault};
 ghost use Rattle.gn_start.specs.declared.fault.RunFault.TheVariants.{NoMemory};
 
 use crate::fault::Fault;
 use crate::left_open::LeftOpen;
 use crate::measured::Measured;
 use crate::misfit::Misfit;
+use crate::told::Told;
 use gn_capture::read_history_line;
 use gn_comments::Standing;
 use gn_io::Source;
 use gn_metrics::{COUNTERS, Meters};
 use gn_replay::ReplayFault;
-use gn_rules::{Config, Counter, Receipt, Refusal, Reply, Step, is_same_config, is_same_reply};
+use gn_rules::{
+    Config, Counter, Event, Receipt, Refusal, Reply, Step, is_same_config, is_same_reply,
+};
 use gn_service::Past;
 use gn_start::Recall;
 use gn_stream::{LineReader, StreamFault, next_numbered, read_history_header};
@@ -40,11 +44,10 @@ impl Reread {
         }
     }
 
-    /// What is wrong with it, where something is.
-    pub(crate) fn misfit(&self) -> Option<Misfit> {
-        match self.misfit.get() {
-            Some(misfit) => Some(*misfit),
-            None => None,
+    /// Tells what is wrong with it, where something is.
+    pub(crate) fn tell(&self, told: &mut Told) {
+        if let Some(misfit) = self.misfit.get() {
+            *told = Told::Before(*misfit);
         }
     }
 
@@ -58,7 +61,7 @@ impl Reread {
 }
 
 /// How far a history is read.
-#[derive(Clone, Copy, Debug, PartialEq, Eq)]
+#[derive(Clone, Copy, PartialEq, Eq)]
 enum Phase {
     Header,
     Steps,
@@ -180,22 +183,30 @@ impl<'a, S: Source> Before<'a, S> {
         Ok(read_history_line(alloc, &(number, self.lines.line()))?)
     }
 
+    /// Counts the line that was read last. Where it is no step, all is read, and its last line isn't to be `end`.
+    fn count_line(&mut self, is_step: bool) -> Result<(), RunFault>
+        ensures { IfErr result (λ fault. fault ≡ NoMemory) }
+    {
+        if is_step {
+            self.count = self.count.saturating_add(1);
+            return Ok(());
+        }
+        if !self.lines.has_added_end() {
+            return Err(self.reread.stop(Misfit::Ended));
+        }
+        self.end()
+    }
+
     /// Reads its next step, if there is one.
     fn read_step<A: Allocator + Copy>(&mut self, alloc: A) -> Result<Option<Step<A>>, RunFault>
         ensures { IfErr result (λ fault. fault ≡ NoMemory) }
     {
-        match self.read_line(alloc) {
-            Ok(Some(step)) => {
-                self.count = self.count.saturating_add(1);
-                Ok(Some(step))
-            }
-            Ok(None) if !self.lines.has_added_end() => Err(self.reread.stop(Misfit::Ended)),
-            Ok(None) => {
-                self.end()?;
-                Ok(None)
-            }
-            Err(fault) => Err(self.stop_at(fault)),
-        }
+        let step = match self.read_line(alloc) {
+            Ok(step) => step,
+            Err(fault) => return Err(self.stop_at(fault)),
+        };
+        self.count_line(step.is_some())?;
+        Ok(step)
     }
 
     /// Counts a reply.
@@ -226,36 +237,16 @@ impl<'a, S: Source> Before<'a, S> {
         self.open.add(&receipt.event, reply)?;
         Ok(())
     }
-}
 
-impl<'a, S: Source + Drop> Past for Before<'a, S> {
-    ghost recalls = { λ _. true };
-
-    fn recall<A: Allocator + Copy>(&mut self, alloc: A) -> Result<Option<Recall<A>>, RunFault> {
-        if self.phase == Phase::Header {
-            self.read_header()?;
-        }
-        if self.phase == Phase::Steps
-            && let Some(step) = self.read_step(alloc)?
-        {
-            let Step { event, reply, .. } = step;
-            return Ok(Some(Recall {
-                event,
-                reply: Some(reply),
-            }));
-        }
-        match self.open.next_end() {
-            Some(event) => Ok(Some(Recall { event, reply: None })),
-            None => Ok(None),
-        }
-    }
-
-    fn recalled<A: Allocator + Copy>(
+    /// Looks at what the rules answered to an event: to that of a step as its line says, or to one that ends what is left open.
+    fn judge<A: Allocator>(
         &mut self,
-        recall: Recall<A>,
-        answer: Result<Receipt<A>, Refusal>,
-    ) -> Result<(), RunFault> {
-        match (&recall.reply, &answer) {
+        recall: &Recall<A>,
+        answer: &Result<Receipt<A>, Refusal>,
+    ) -> Result<(), RunFault>
+        ensures { IfErr result (λ fault. (links workers : ℕ) → IsArrivingFault true links workers fault) }
+    {
+        match (&recall.reply, answer) {
             (Some(reply), Ok(receipt)) => self.compare(reply, receipt),
             (None, Ok(_)) => {
                 self.meters.add_made();
@@ -265,5 +256,47 @@ impl<'a, S: Source + Drop> Past for Before<'a, S> {
             (None, Err(Refusal::HistoryFull)) => Err(RunFault::HistoryFull),
             (_, Err(_)) => Err(self.reread.stop(Misfit::Wrong(self.line))),
         }
+    }
+}
+
+/// The recall of this step, if there is one.
+fn recall_of<A: Allocator>(step: Option<Step<A>>) -> Option<Recall<A>> {
+    let Step { event, reply, .. } = step?;
+    Some(Recall {
+        event,
+        reply: Some(reply),
+    })
+}
+
+/// The recall of this event, if there is one, which ends what is left open.
+fn end_of<A: Allocator>(event: Option<Event<A>>) -> Option<Recall<A>> {
+    Some(Recall {
+        event: event?,
+        reply: None,
+    })
+}
+
+impl<'a, S: Source + Drop> Past for Before<'a, S> {
+    ghost recalls = { λ _. true };
+
+    fn recall<A: Allocator + Copy>(&mut self, alloc: A) -> Result<Option<Recall<A>>, RunFault> {
+        if self.phase == Phase::Header {
+            self.read_header()?;
+        }
+        if self.phase == Phase::Steps {
+            let recall = recall_of(self.read_step(alloc)?);
+            if recall.is_some() {
+                return Ok(recall);
+            }
+        }
+        Ok(end_of(self.open.next_end()))
+    }
+
+    fn recalled<A: Allocator + Copy>(
+        &mut self,
+        recall: Recall<A>,
+        answer: Result<Receipt<A>, Refusal>,
+    ) -> Result<(), RunFault> {
+        self.judge(&recall, &answer)
     }
 }

@@ -308,8 +308,6 @@ pub(crate) fn resume<
     };
     let reread = Reread::new();
     let answer = go_on(rt, alloc, serve, serving, writer, desk, &reread, meters);
-    if let Some(misfit) = reread.misfit() {
-        *told = Told::Before(misfit);
-    }
+    reread.tell(told);
     answer
 }
