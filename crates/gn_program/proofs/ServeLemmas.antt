@@ -1,10 +1,10 @@
 -- What a serve answers, from what the run answered.
-use Rattle.std.proofs.Common.{◌≡◌, ◌+◌, ℕ, Bool, false, true, List, [], length, IfErr, OnOk, Option, None, Some, Result, Ok, Err, refl, sym, subst, is_some, not, ◌&&◌}
+use Rattle.std.proofs.Common.{◌≡◌, ◌∙◌, ◌⊎◌, ◌+◌, ℕ, Bool, false, true, List, [], length, IfErr, OnOk, Option, None, Some, Result, Ok, Err, ap, inl, inr, refl, sym, subst, is_some, not, ◌&&◌}
 use Rattle.std.specs.Prelude.{IfSome}
-use Rattle.std.specs.Result.{IsErrAnd}
 use Rattle.std.specs.declared.alloc.Global.{Global}
 use Rattle.std.specs.declared.net.socket_addr.SocketAddr.{SocketAddr}
 use Rattle.std.proofs.lemmas.Result.{IfErr-weaker}
+use Rattle.std.proofs.lemmas.List.{length-map}
 use Rattle.gn_comments.proofs.RestLemmas.{nothing_left, nothing_rested}
 use Rattle.gn_comments.proofs.SinkLemmas.{nothing_both, nothing_said}
 use Rattle.gn_comments.specs.Rests.{HasWrittenRest, with_all}
@@ -14,16 +14,21 @@ use Rattle.gn_rules.specs.Limits.{IsCrew}
 use Rattle.gn_rules.specs.declared.config.Config.{Config}
 use Rattle.gn_load.proofs.JournalLemmas.{nothing_yet}
 use Rattle.gn_load.specs.Journalled.{AppendsSomeLegalPart}
-use Rattle.gn_load.specs.Any.{AppendsTaken, AppendsTakenPart, IsTakenFault}
+use Rattle.gn_load.specs.Any.{AppendsTaken, AppendsTakenPart, IsJournalledTaken, IsTakenFault}
 use Rattle.gn_load.specs.declared.serve_fault.ServeFault.{ServeFault}
 use Rattle.gn_load.specs.declared.serve_fault.ServeFault.TheVariants.{Run}
+use Rattle.gn_load.specs.declared.serve_halted.ServeHalted.{ServeHalted}
+use Rattle.gn_load.specs.declared.taken.Taken.{Taken}
 use Rattle.gn_start.specs.Faults.{IsArrivingFault}
 use Rattle.gn_start.specs.declared.fault.RunFault.{RunFault}
+use Rattle.gn_start.specs.declared.fault.RunFault.TheVariants.{Listen, NoMemory}
 use Rattle.gn_program.specs.Serves.{AppendsAsked, AppendsAskedPart, IsBeside, IsRestBeside, IsServeAnswer, IsServing, IsWritten}
+use Rattle.gn_program.specs.Served.{served_by}
 use Rattle.gn_program.specs.Limits.{calls_again, goes_on}
-use Rattle.gn_program.specs.Peers.{AreAt}
+use Rattle.gn_program.specs.Peers.{AreAt, peer_at}
 use Rattle.gn_service.specs.Ran.{Remembered}
 use Rattle.gn_program.specs.Serve.{AskedServe}
+use Rattle.gn_words.specs.declared.peers.Peer.{Peer}
 
 -- a sink to which nothing was written, beside itself
 pub beside_itself : (has : Bool) (sink : SinkState) → IsBeside has sink sink sink
@@ -149,17 +154,21 @@ answered serving settings called remembered sink sink_new answer configured at m
           (subst (λ n. IfErr answer (λ fault. IsCrew serving.workers → IsTakenFault n serving.accept serving.workers fault sink sink_new)) many fault);
     }
 
--- all that is answered where the run has no report, or its history wasn't written
-pub failed : (serving : AskedServe) (settings : Config) (called : List SocketAddr) (remembered : Option (Remembered Global)) (sink sink_new : SinkState) (answer : Result (Unit {0}) ServeFault) (fault : ServeFault)
-    → IsServing serving settings → AreAt serving.peers called → length called ≡ length serving.peers → IsCrew serving.workers → IsErrAnd answer (λ e. e ≡ fault)
-    → AppendsSomeLegalPart Global settings sink.written sink_new.written
-    → IfSome remembered (λ _. AppendsTakenPart Global (goes_on serving) (calls_again serving) (is_some serving.ping) serving.batch settings called serving.accept serving.workers remembered sink.written sink_new.written)
-    → (IsCrew serving.workers → IsTakenFault (length called) serving.accept serving.workers fault sink sink_new)
-    → IsServeAnswer serving sink sink_new answer remembered
-failed serving settings called remembered sink sink_new (Ok done) fault configured at many within is stopped part one = absurd is
-failed serving settings called remembered sink sink_new (Err e) fault configured at many within is stopped part one =
-    answered serving settings called remembered sink sink_new (Err e) configured at many within tt tt stopped part
-    (subst (λ f. IsCrew serving.workers → IsTakenFault (length called) serving.accept serving.workers f sink sink_new) (sym is) one)
+-- the addresses of peers are as many as those
+as_many : (peers : List Peer) (called : List SocketAddr) → AreAt peers called → length called ≡ length peers
+as_many peers called at = sym (length-map called peer_at) ∙ ap (λ xs. length xs) at ∙ length-map peers Some
+
+-- all that is answered where a run answered so, over links that are called at the peers' addresses
+pub ended : (serving : AskedServe) (settings : Config) (called : List SocketAddr) (old all : SinkState)
+    (answer : Result (Taken Global × Remembered Global) (ServeHalted Global)) → IsServing serving settings → AreAt serving.peers called → IsCrew serving.workers
+    → IsJournalledTaken (goes_on serving) (calls_again serving) (is_some serving.ping) serving.batch settings called serving.accept serving.workers old all answer
+    → IsServeAnswer serving old all (served_by answer).answer (served_by answer).ran
+ended serving settings called old all (Ok done) configured at within told =
+    answered serving settings called (Some done.1) old all (Ok tt) configured at (as_many _ _ at) within told.unfailed
+    (asked serving settings called done.1 old.written all.written at told.written) tt tt tt
+ended serving settings called old all (Err halted) configured at within told =
+    answered serving settings called halted.ran old all (Err halted.fault) configured at (as_many _ _ at) within tt tt (halted.history, told.part) told.remembered
+    told.fault
 
 -- a fault that any run may have is one of this run
 of_any_run : (peers : ℕ) (accept : Option ℕ) (workers : ℕ) (fault : RunFault) (sink : SinkState) → ((links : ℕ) → IsArrivingFault true links workers fault)
@@ -167,18 +176,21 @@ of_any_run : (peers : ℕ) (accept : Option ℕ) (workers : ℕ) (fault : RunFau
 of_any_run peers None workers fault sink may = (0, may 0)
 of_any_run peers (Some accept) workers fault sink may = may (peers + accept)
 
+-- a run may have these faults
+any_may : (workers : ℕ) (fault : RunFault) → (fault ≡ NoMemory) ⊎ (fault ≡ Listen) → (links : ℕ) → IsArrivingFault true links workers fault
+any_may workers fault (inl is) links = subst (IsArrivingFault true links workers) (sym is) tt
+any_may workers fault (inr is) links = subst (IsArrivingFault true links workers) (sym is) refl
+
 -- all that is answered where there was no run
-pub unserved : (serving : AskedServe) (settings : Config) (remembered : Option (Remembered Global)) → remembered ≡ None → (sink : SinkState) (answer : Result (Unit {0}) ServeFault) (fault : RunFault)
-    → IsServing serving settings → IsErrAnd answer (λ e. e ≡ Run fault) → ((links : ℕ) → IsArrivingFault true links serving.workers fault)
-    → IsServeAnswer serving sink sink answer remembered
-unserved serving settings remembered none sink (Ok done) fault configured is one = absurd is
-unserved serving settings remembered none sink (Err e) fault configured is one =
+pub unserved : (serving : AskedServe) (settings : Config) (sink : SinkState) (fault : RunFault) → IsServing serving settings → (fault ≡ NoMemory) ⊎ (fault ≡ Listen)
+    → IsServeAnswer serving sink sink (Err (Run fault)) None
+unserved serving settings sink fault configured is =
     record {
       settings = settings;
       configured = configured;
       unfailed = tt;
       written = tt;
       stopped = (None, nothing_yet Global settings sink.written);
-      part = subst (λ r. IfSome r (λ _. AppendsAskedPart serving settings r sink.written sink.written)) (sym none) tt;
-      fault = subst (λ f. IsTakenFault (length serving.peers) serving.accept serving.workers f sink sink) (sym is) (of_any_run (length serving.peers) serving.accept serving.workers fault sink one);
+      part = tt;
+      fault = of_any_run (length serving.peers) serving.accept serving.workers fault sink (any_may serving.workers fault is);
     }

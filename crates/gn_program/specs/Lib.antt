@@ -9,5 +9,6 @@ pub mod Peers
 pub mod Replay
 pub mod Reports
 pub mod Serve
+pub mod Served
 pub mod Serves
 pub mod Show

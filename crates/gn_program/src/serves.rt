@@ -1,16 +1,18 @@
 //! A router that serves, as a command line asks for it.
 
-ghost use Rattle.std.specs.Prelude.{◌≡◌, ◌*◌, ◌+◌, ◌<◌, ◌≤◌, ℕ, List, None, false, is_some, length, true, unwrap_or, IfNone, IfOk, IfSome};
+ghost use Rattle.std.specs.Prelude.{◌≡◌, ◌⊎◌, ◌*◌, ◌+◌, ◌<◌, ◌≤◌, ℕ, List, false, is_some, length, true, unwrap_or, IfErr, IfNone, IfOk, IfSome};
 ghost use Rattle.std.specs.Option.{IsSomeAnd};
 ghost use Rattle.std.specs.Bool.{then_some};
 ghost use Rattle.std.specs.Duration.{as_nanos};
 ghost use Rattle.gn_comments.specs.Sinks.{HasWrittenBoth, without_comments};
 ghost use Rattle.gn_io.specs.Streams.{SinkState};
 ghost use Rattle.gn_load.specs.Any.{IsJournalledTaken};
+ghost use Rattle.gn_program.specs.Served.{halted_served, served_by};
 ghost use Rattle.gn_program.specs.Serves.{HasServed, IsBeside, IsIdOf, IsServing, IsWritten, has_comments};
 ghost use Rattle.gn_program.specs.Limits.{IsLimit, IsStopOf, calls_again, goes_on, may_stop, seconds_of};
 ghost use Rattle.gn_program.specs.Peers.{AreAt, IsHere};
 ghost use Rattle.gn_rules.specs.Limits.{most_links};
+ghost use Rattle.gn_start.specs.declared.fault.RunFault.TheVariants.{Listen, NoMemory};
 ghost use Rattle.gn_words.specs.Options.{calls_far};
 ghost use Rattle.gn_words.specs.declared.servent.Servent.TheVariants.{Random};
 
@@ -48,7 +50,7 @@ use std::thread::Threads;
 use std::time::{Clock, Duration, SystemTime, UNIX_EPOCH};
 
 /// The line that says that the router listens on this port.
-#[derive(Clone, Copy, Debug)]
+#[derive(Clone, Copy)]
 struct Listening(u16);
 
 impl Display for Listening {
@@ -180,6 +182,14 @@ fn stop_of<R: Threads + Input<Reader = StdinLock<'static>>>(
     Ok(stop)
 }
 
+/// Looks whether a run can take the second handle of this listener that it needs.
+fn try_second(listener: &TcpListener) -> Result<(), Unmet> {
+    match listener.try_clone() {
+        Ok(_) => Ok(()),
+        Err(why) => Err(Unmet::of(&why)),
+    }
+}
+
 /// A listener at this address, of which a run can take the second handle that it needs.
 fn bound<N: Net<Listener = TcpListener, Stream = TcpStream>>(
     net: &N,
@@ -189,10 +199,8 @@ fn bound<N: Net<Listener = TcpListener, Stream = TcpStream>>(
         Ok(listener) => listener,
         Err(why) => return Err(Unmet::of(&why)),
     };
-    match listener.try_clone() {
-        Ok(_) => Ok(listener),
-        Err(why) => Err(Unmet::of(&why)),
-    }
+    try_second(&listener)?;
+    Ok(listener)
 }
 
 /// The address at which the router listens.
@@ -235,16 +243,16 @@ fn report_ended<G: Watch, F: Sink>(
     watch.leave(taken);
 }
 
-/// Writes what became of the links of a run that stopped, where that is asked for and known, and lets go of it.
+/// Writes what became of the links of a run that stopped, where that is to be said and known, and lets go of it.
 fn report_stopped<G: Watch, F: Sink>(
-    serving: &ServeOptions,
     watch: &G,
     peers: &[SocketAddr],
     links: Option<Vec<LinkTally>>,
+    are_said: bool,
     faults: &mut F,
 ) {
     if let Some(links) = &links
-        && serving.report
+        && are_said
     {
         write_stopped(faults, peers, links);
     }
@@ -402,9 +410,137 @@ fn run_asked<
     run_scraped(rt, alloc, serve, serving, writer, desk)
 }
 
+/// What a router serves with: what it is, whom it calls and by what it is stopped, and where it is called and asked for its counts.
+#[derive(Drop)]
+struct Prepared {
+    config: Config,
+    peers: Vec<SocketAddr>,
+    stop: Arc<Stop, Global>,
+    listener: TcpListener,
+    desk: Option<Desk>,
+}
+
+/// What a router of this configuration serves with, once it listens. What the system said of a port, where that fails, stays in `told`.
+fn prepare<R: Host + Input<Reader = StdinLock<'static>> + RandomSource>(
+    rt: &R,
+    alloc: Global,
+    serving: &ServeOptions,
+    config: Config,
+    told: &mut Told,
+) -> Result<Prepared, RunFault>
+    ensures config { IfOk result (λ prepared. prepared.config ≡ config) }
+    ensures peers { IfOk result (λ prepared. AreAt serving.now.peers prepared.peers.items) }
+    ensures fault { IfErr result (λ fault. (fault ≡ NoMemory) ⊎ (fault ≡ Listen)) }
+{
+    let peers = addresses(alloc, &serving.peers)?;
+    let stop = stop_of(rt, alloc, serving)?;
+    match listen_both(rt, serving, told) {
+        Ok((listener, desk)) => Ok(Prepared {
+            config,
+            peers,
+            stop,
+            listener,
+            desk,
+        }),
+        Err(_) => Err(RunFault::Listen),
+    }
+}
+
+/// Runs the router, writes its history while it runs, and answers who asks for its counts. It is watched as it runs, by `calls`.
+fn run_prepared<
+    's,
+    R: Host + Input<Reader = StdinLock<'static>> + RandomSource,
+    G: Watch + Sync,
+    W: Sink + Send,
+    F: Sink + Send,
+>(
+    rt: &R,
+    alloc: Global,
+    serving: &ServeOptions,
+    prepared: &'s Prepared,
+    calls: &Calls<'_, G>,
+    writer: &mut W,
+    faults: &mut F,
+    told: &mut Told,
+) -> Result<(Taken<'s>, Ran), ServeHalted>
+    requires peers { AreAt serving.now.peers prepared.now.peers.items }
+    ensures { let s = serving.now in (all : SinkState)
+        × IsWritten (goes_on s) (has_comments s) (W.state writer.old) all (W.state writer.new)
+        × IsJournalledTaken (goes_on s) (calls_again s) (is_some s.ping) s.batch prepared.now.config
+        prepared.now.peers.items s.accept s.workers (W.state writer.old) all result }
+{
+    let leavings = Leavings::new(rt, faults, serving.report);
+    let asked = Serve {
+        listener: &prepared.listener,
+        config: &prepared.config,
+        peers: &prepared.peers,
+        accept: taking(rt, serving, prepared.config.own.servent, &leavings),
+        workers: serving.workers,
+        limits: limits(serving, &prepared.stop),
+        watch: calls,
+        batch: batch_of(serving.batch),
+    };
+    let desk = prepared.desk.as_ref();
+    run_asked(rt, alloc, &asked, serving, writer, desk, told)
+}
+
+/// What a serve answers, and what is remembered of its run.
+#[derive(Drop)]
+pub(crate) struct Served {
+    pub(crate) answer: Result<(), ServeFault>,
+    pub(crate) ran: Option<Ran>,
+}
+
+/// What a run that stopped comes to. It is written what became of its links, where that is asked for and its history is known.
+fn stopped<G: Watch, F: Sink>(
+    serving: &ServeOptions,
+    watch: &G,
+    peers: &[SocketAddr],
+    halted: ServeHalted,
+    faults: &mut F,
+) -> Served
+    ensures { result ≡ halted_served halted }
+{
+    let ServeHalted {
+        fault,
+        history,
+        links,
+        ran,
+    } = halted;
+    let are_said = serving.report && history.is_some();
+    report_stopped(watch, peers, links, are_said, faults);
+    Served {
+        answer: Err(fault),
+        ran,
+    }
+}
+
+/// What a run comes to. It is written what became of its links, where that is asked for.
+fn ended<G: Watch, F: Sink>(
+    alloc: Global,
+    serving: &ServeOptions,
+    watch: &G,
+    peers: &[SocketAddr],
+    answer: Result<(Taken<'_>, Ran), ServeHalted>,
+    faults: &mut F,
+) -> Served
+    ensures { result ≡ served_by answer.entry }
+{
+    match answer {
+        Ok((taken, ran)) => {
+            report_ended(alloc, serving, watch, taken, faults);
+            Served {
+                answer: Ok(()),
+                ran: Some(ran),
+            }
+        }
+        Err(halted) => stopped(serving, watch, peers, halted, faults),
+    }
+}
+
 /// Listens, says so with the faults, runs the router, writes its history while it runs, answers who asks for its counts, and then writes what
 /// became of its links with the faults, where that is asked for. It is watched as it runs, by `calls`. What the system said of a port
-/// stays in `told`, and what is remembered of the run in `remembered`.
+/// stays in `told`.
 pub(crate) fn serve<
     R: Host + Input<Reader = StdinLock<'static>> + RandomSource,
     G: Watch + Sync,
@@ -419,50 +555,21 @@ pub(crate) fn serve<
     writer: &mut W,
     faults: &mut F,
     told: &mut Told,
-    remembered: &mut Option<Ran>,
-) -> Result<(), ServeFault>
-    requires none { remembered.old ≡ None }
+) -> Served
     requires id { IsIdOf serving.now.servent id }
-    ensures { HasServed serving.now (W.state writer.old) (W.state writer.new) result remembered.new }
+    ensures { HasServed serving.now (W.state writer.old) (W.state writer.new) result.answer result.ran }
 {
     let config = settings(serving, id);
-    let peers = addresses(alloc, &serving.peers)?;
-    let stop = stop_of(rt, alloc, serving)?;
-    let Ok((listener, desk)) = listen_both(rt, serving, told) else {
-        return Err(ServeFault::Run(RunFault::Listen));
+    let prepared = match prepare(rt, alloc, serving, config, told) {
+        Ok(prepared) => prepared,
+        Err(fault) => {
+            return Served {
+                answer: Err(ServeFault::Run(fault)),
+                ran: None,
+            };
+        }
     };
     let _ = write_text(faults, Listening(serving.port));
-    let leavings = Leavings::new(rt, &mut *faults, serving.report);
-    let asked = Serve {
-        listener: &listener,
-        config: &config,
-        peers: &peers,
-        accept: taking(rt, serving, id, &leavings),
-        workers: serving.workers,
-        limits: limits(serving, &stop),
-        watch: calls,
-        batch: batch_of(serving.batch),
-    };
-    let answer = run_asked(rt, alloc, &asked, serving, writer, desk.as_ref(), told);
-    drop(leavings);
-    match answer {
-        Ok((taken, ran)) => {
-            *remembered = Some(ran);
-            report_ended(alloc, serving, calls, taken, faults);
-            Ok(())
-        }
-        Err(
-            ServeHalted {
-                fault,
-                history,
-                links,
-                ran,
-            },
-        ) => {
-            *remembered = ran;
-            let links = if history.is_some() { links } else { None };
-            report_stopped(serving, calls, &peers, links, faults);
-            Err(fault)
-        }
-    }
+    let answer = run_prepared(rt, alloc, serving, &prepared, calls, writer, faults, told);
+    ended(alloc, serving, calls, &prepared.peers, answer, faults)
 }

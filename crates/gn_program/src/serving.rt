@@ -10,7 +10,7 @@ use crate::ended::Ended;
 use crate::fault::Fault;
 use crate::scraping::meters_of;
 use crate::serve::ServeOptions;
-use crate::serves::{id_of, serve};
+use crate::serves::{Served, id_of, serve};
 use crate::text::write_text;
 use crate::told::Told;
 use crate::unwatched::Unwatched;
@@ -60,10 +60,7 @@ fn serve_watched<
 {
     let calls = Calls::new(alloc, watch, serving.links, meters_of(rt, serving));
     let mut told = Told::Nothing;
-    let mut ran = None;
-    let answer = serve(
-        rt, alloc, serving, id, &calls, writer, faults, &mut told, &mut ran,
-    );
+    let Served { answer, ran } = serve(rt, alloc, serving, id, &calls, writer, faults, &mut told);
     let told = calls.told(&answer, told);
     let status = end_serve(faults, answer, told);
     Ended { status, ran }
