@@ -124,35 +124,45 @@ both_are : (o : Option (Text × List Row)) (name : Text) (rows : List Row) → o
 both_are None name rows e f = absurd (true≢false (ap is_some (sym e)))
 both_are (Some (n, rs)) name rows e f = cc
 
--- the words' subcommand is the one with this name and these rows
-entered_as : (m : ArgMatches) (words : List Text) (name : Text) (rows : List Row) → Parses m words → subcommand_name_of m ≡ Some name
-    → option_map (λ p. p.1) (subcommand_rows_of m) ≡ Some rows → subcommand_of gn_app words ≡ Some (name, rows)
-entered_as m words name rows p is are =
-    sym p.rows ∙ both_are (subcommand_rows_of m) name rows (named_rows (out-ArgMatches m).subcommand ∙ is) are
+-- the subcommand is the one with this name and these rows
+entered : (m : ArgMatches) (name : Text) (rows : List Row) → subcommand_name_of m ≡ Some name → option_map (λ p. p.1) (subcommand_rows_of m) ≡ Some rows
+    → subcommand_rows_of m ≡ Some (name, rows)
+entered m name rows is are = both_are (subcommand_rows_of m) name rows (named_rows (out-ArgMatches m).subcommand ∙ is) are
 
--- what is wrong with words is what is wrong with the value of an option
-kinds_by_value : (m : ArgMatches) (words : List Text) (name : Text) (rows : List Row) → Parses m words → subcommand_name_of m ≡ Some name
-    → option_map (λ p. p.1) (subcommand_rows_of m) ≡ Some rows → kinds_of words ≡ value_kinds (Some (name, rows))
-kinds_by_value m words name rows p is are =
-    ap (λ fs. or_else fs (value_kinds (subcommand_of gn_app words))) p.faults ∙ ap value_kinds (entered_as m words name rows p is are)
+-- it asks for what its name and rows stand for
+pub asks : (m : ArgMatches) (name : Text) (rows : List Row) (request : Request) → subcommand_name_of m ≡ Some name
+    → option_map (λ p. p.1) (subcommand_rows_of m) ≡ Some rows → request_named name rows ≡ Some request → request_by [] (subcommand_rows_of m) ≡ Some request
+asks m name rows request is are asked = ap (request_by []) (entered m name rows is are) ∙ asked
 
--- what the words ask for, where the subcommand's name and rows stand for a request
-pub reads : (m : ArgMatches) (words : List Text) (name : Text) (rows : List Row) (request : Request) → Parses m words
-    → subcommand_name_of m ≡ Some name → option_map (λ p. p.1) (subcommand_rows_of m) ≡ Some rows
-    → request_named name rows ≡ Some request → request_of words ≡ Some request
-reads m words name rows request p is are asked =
-    let none : kinds_of words ≡ [] = kinds_by_value m words name rows p is are
-    ∙ ap (λ (o : Option Request). if is_some o then [] else ValueValidation ∷ []) asked in
-    ap (λ fs. request_by fs (subcommand_of gn_app words)) none ∙ ap (request_by []) (entered_as m words name rows p is are) ∙ asked
-
--- what is wrong with the words, where they stand for none
-pub refuses : (m : ArgMatches) (words : List Text) (name : Text) (rows : List Row) (error : Error) → Parses m words
-    → subcommand_name_of m ≡ Some name → option_map (λ p. p.1) (subcommand_rows_of m) ≡ Some rows → request_named name rows ≡ None
-    → kind_of error ≡ ValueValidation → HasKind (kinds_of words) error
-refuses m words name rows error p is are none kind =
-    let wrong : kinds_of words ≡ ValueValidation ∷ [] = kinds_by_value m words name rows p is are
+-- where they stand for nothing, a value is wrong
+pub mistaken : (m : ArgMatches) (name : Text) (rows : List Row) (error : Error) → subcommand_name_of m ≡ Some name
+    → option_map (λ p. p.1) (subcommand_rows_of m) ≡ Some rows → request_named name rows ≡ None → kind_of error ≡ ValueValidation
+    → HasKind (value_kinds (subcommand_rows_of m)) error
+mistaken m name rows error is are none kind =
+    let wrong : value_kinds (subcommand_rows_of m) ≡ ValueValidation ∷ [] = ap value_kinds (entered m name rows is are)
     ∙ ap (λ (o : Option Request). if is_some o then [] else ValueValidation ∷ []) none in
     inr (subst (IsAmong (kind_of error)) (sym wrong) (inl kind))
+
+-- nothing is wrong with the values of what stands for a request
+none_wrong : (o : Option (Text × List Row)) (request : Request) → request_by [] o ≡ Some request → value_kinds o ≡ []
+none_wrong (Some (name, rows)) request asked = ap (λ (o : Option Request). if is_some o then [] else ValueValidation ∷ []) asked
+none_wrong None request asked = absurd (true≢false (ap is_some (sym asked)))
+
+-- what is wrong with words is what is wrong with the values of their subcommand
+kinds_by_value : (m : ArgMatches) (words : List Text) → Parses m words → kinds_of words ≡ value_kinds (subcommand_rows_of m)
+kinds_by_value m words p = ap (λ fs. or_else fs (value_kinds (subcommand_of gn_app words))) p.faults ∙ ap value_kinds (sym p.rows)
+
+-- what the words ask for is what the subcommand does
+pub reads : (m : ArgMatches) (words : List Text) (request : Request) → Parses m words → request_by [] (subcommand_rows_of m) ≡ Some request
+    → request_of words ≡ Some request
+reads m words request p asked =
+    ap (λ fs. request_by fs (subcommand_of gn_app words)) (kinds_by_value m words p ∙ none_wrong (subcommand_rows_of m) request asked)
+    ∙ ap (request_by []) (sym p.rows) ∙ asked
+
+-- what is wrong with the words, where a value is wrong
+pub refuses : (m : ArgMatches) (words : List Text) (error : Error) → Parses m words → HasKind (value_kinds (subcommand_rows_of m)) error
+    → HasKind (kinds_of words) error
+refuses m words error p has = subst (λ kinds. HasKind kinds error) (sym (kinds_by_value m words p)) has
 
 has_first : (kinds next : Kinds) (error : Error) → HasKind kinds error → HasKind (or_else kinds next) error
 has_first kinds next error (inl e) = inl e

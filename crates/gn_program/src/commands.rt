@@ -1,13 +1,14 @@
 //! A command line, done.
 
-ghost use Rattle.std.specs.Prelude.{◌≡◌, ◌≢◌, ◌⊎◌, Some, None, IfErr, IfOk, map};
+ghost use Rattle.std.specs.Prelude.{◌≡◌, ◌≢◌, ◌⊎◌, [], Some, None, true, IfErr, IfOk, map};
 ghost use Rattle.std.specs.IoError.{error_kind};
 ghost use Rattle.std.specs.declared.io.ErrorKind.TheVariants.{OutOfMemory as NoneLeft};
 ghost use Rattle.clap.specs.Kinds.{IsAmong};
-ghost use Rattle.clap.specs.Words.{HasKind, kind_of};
+ghost use Rattle.clap.specs.Matches.{has_subcommand};
+ghost use Rattle.clap.specs.Words.{HasKind, kind_of, subcommand_rows_of};
 ghost use Rattle.clap.specs.declared.error.kind.ErrorKind.{ErrorKind as Kind};
 ghost use Rattle.clap.specs.declared.error.kind.ErrorKind.TheVariants.{OutOfMemory};
-ghost use Rattle.gn_program.specs.Commands.{Does, HasDone, IsTurnedAway, IsUnread, kinds_of, request_of};
+ghost use Rattle.gn_program.specs.Commands.{Does, HasDone, IsTurnedAway, IsUnread, kinds_of, request_by, request_of, value_kinds};
 ghost use Rattle.gn_program.specs.declared.request.Request.{Request as Asked};
 ghost use Rattle.gn_io.specs.Streams.{streams};
 
@@ -18,8 +19,8 @@ use crate::fault::Fault;
 use crate::head::Head;
 use crate::request::{Request, gn_command, mistake, obey, reading_of, request_named};
 use crate::text::write_text;
-use clap::Error;
 use clap::error::ErrorKind;
+use clap::{ArgMatches, Error};
 use gn_io::{Sink, Source};
 use gn_links::{NoGate, Watch};
 use gn_rules::FreshRouter;
@@ -36,13 +37,13 @@ use std::random::RandomSource;
 /// The words can't be read.
 const USAGE: u8 = 2;
 
-/// What the words ask for, the first of them the program's name. An `Err` says what else they are: a call for help or
-/// the version, or a mistake; or it says out of memory.
-fn read_words<'a, T: AsStr>(alloc: Global, words: &'a [T]) -> Result<Request, Error>
-    ensures ok { IfOk result (λ request. request_of (map T.text words.entry.now) ≡ Some request) }
-    ensures err { IfErr result (HasKind (kinds_of (map T.text words.entry.now))) }
+/// What parsed words ask for, which name a subcommand; a mistake of that, where a value isn't within its limits. An `Err` may also
+/// say out of memory.
+fn request_in(alloc: Global, matches: &ArgMatches<'_>) -> Result<Request, Error>
+    requires { has_subcommand matches.now ≡ true }
+    ensures ok { IfOk result (λ request. request_by [] (subcommand_rows_of matches.now) ≡ Some request) }
+    ensures err { IfErr result (HasKind (value_kinds (subcommand_rows_of matches.now))) }
 {
-    let matches = gn_command(alloc)?.try_get_matches_from(words)?;
     let Some((name, options)) = matches.subcommand() else {
         unreachable!()
     };
@@ -51,6 +52,16 @@ fn read_words<'a, T: AsStr>(alloc: Global, words: &'a [T]) -> Result<Request, Er
         Err(Unread::Mistake(text)) => Err(mistake(alloc, name, text)?),
         Err(Unread::NoMemory) => Err(Error::from(AllocError)),
     }
+}
+
+/// What the words ask for, the first of them the program's name. An `Err` says what else they are: a call for help or
+/// the version, or a mistake; or it says out of memory.
+fn read_words<'a, T: AsStr>(alloc: Global, words: &'a [T]) -> Result<Request, Error>
+    ensures ok { IfOk result (λ request. request_of (map T.text words.entry.now) ≡ Some request) }
+    ensures err { IfErr result (HasKind (kinds_of (map T.text words.entry.now))) }
+{
+    let matches = gn_command(alloc)?.try_get_matches_from(words)?;
+    request_in(alloc, &matches)
 }
 
 /// Answers words that ask for no work: help and the version are output, all else is written with the faults.
@@ -142,7 +153,9 @@ pub fn command_with<
     match read_words(alloc, words) {
         Ok(request) => {
             let reading = reading_of(&request);
-            let ended = obey::<C, R, G, S, W, F>(rt, alloc, request, watch, reader, writer, faults);
+            let ended = obey::<C, R, G, S, W, F>(
+                rt, alloc, &request, watch, reader, writer, faults,
+            );
             write_detail(faults, alloc, reading, head, ended.status);
             ended
         }

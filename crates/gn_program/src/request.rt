@@ -166,13 +166,13 @@ pub(crate) fn obey<
 >(
     rt: &R,
     alloc: Global,
-    request: Request,
+    request: &Request,
     watch: &G,
     reader: &mut S,
     writer: &mut W,
     faults: &mut F,
 ) -> Ended
-    ensures { Does request
+    ensures { Does request.now
         (streams (S.state reader.old) (S.state reader.new) (W.state writer.old) (W.state writer.new))
         result.status result.ran }
 {
