@@ -12,7 +12,7 @@ use gn_words::{Group, OptionRow, Page, Takes, Unread, command_of, is_set};
 use std::alloc::{AllocError, Global};
 
 /// How a history is audited.
-#[derive(Clone, Copy, Debug)]
+#[derive(Clone, Copy)]
 pub enum Audit {
     /// Its verdict is written.
     Verdict,

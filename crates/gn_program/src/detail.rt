@@ -13,7 +13,7 @@ use std::{fmt, str};
 const SHOWN: usize = 20;
 
 /// What a command reads.
-#[derive(Clone, Copy, Debug)]
+#[derive(Clone, Copy)]
 pub(crate) struct Reading {
     command: &'static str,
     text: Text,
@@ -27,7 +27,7 @@ impl Reading {
 }
 
 /// A number of a text's first lines, and what it may be.
-#[derive(Clone, Copy, Debug)]
+#[derive(Clone, Copy)]
 struct Bound {
     name: &'static str,
     least: u32,
@@ -50,7 +50,7 @@ impl Bound {
 }
 
 /// What is wrong. Its text is its line, with the line feed.
-#[derive(Clone, Copy, Debug)]
+#[derive(Clone, Copy)]
 enum Detail<'t> {
     /// Nothing more than the fault says.
     Nothing,
@@ -74,7 +74,7 @@ enum Detail<'t> {
 }
 
 /// A number with a comma before each three digits.
-#[derive(Clone, Copy, Debug)]
+#[derive(Clone, Copy)]
 struct Grouped(u32);
 
 impl Display for Grouped {

@@ -5,7 +5,7 @@ use std::fmt;
 use std::fmt::{Display, Formatter, Write};
 
 /// Why a serve can't go on with a history. Its text is its lines, each with its line feed.
-#[derive(Clone, Copy, Debug)]
+#[derive(Clone, Copy)]
 pub(crate) enum Misfit {
     /// It can't be read.
     Unread(Fault),

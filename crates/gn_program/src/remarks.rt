@@ -15,7 +15,7 @@ use std::time::{Clock, Duration};
 const BETWEEN: u128 = 1_000;
 
 /// A time since 1970. Its text is that of its comment.
-#[derive(Clone, Copy, Debug)]
+#[derive(Clone, Copy)]
 struct Moment(Duration);
 
 impl Display for Moment {
@@ -25,7 +25,7 @@ impl Display for Moment {
 }
 
 /// A link, by the actor that reads it, and the peer that came. Its text is that of its comment.
-#[derive(Clone, Copy, Debug)]
+#[derive(Clone, Copy)]
 struct Neighbour {
     reader: u64,
     peer: SocketAddr,

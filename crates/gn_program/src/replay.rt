@@ -12,7 +12,7 @@ use gn_words::{Group, OptionRow, Page, Takes, Unread, command_of, is_set};
 use std::alloc::{AllocError, Global};
 
 /// What a replay prints.
-#[derive(Clone, Copy, Debug)]
+#[derive(Clone, Copy)]
 pub enum Replay {
     /// A line for each answer.
     Lines,

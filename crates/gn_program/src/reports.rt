@@ -19,7 +19,7 @@ use std::fmt::{Display, Formatter, Write};
 use std::net::SocketAddr;
 
 /// What the line of a link counts.
-#[derive(Clone, Copy, Debug)]
+#[derive(Clone, Copy)]
 pub(crate) struct EventCounts {
     /// Descriptors that the link brought.
     pub(crate) offered: u64,
@@ -56,7 +56,7 @@ fn tallied(read: &Tally, written: &Tally) -> EventCounts
 }
 
 /// Which link it is: its number, its peer, where that is known, and its connection, where it got one.
-#[derive(Clone, Copy, Debug)]
+#[derive(Clone, Copy)]
 pub(crate) struct Named {
     pub(crate) link: usize,
     pub(crate) peer: Option<SocketAddr>,
@@ -64,7 +64,7 @@ pub(crate) struct Named {
 }
 
 /// A connection's number, or that there is none.
-#[derive(Clone, Copy, Debug)]
+#[derive(Clone, Copy)]
 struct Numbered(Option<ConnId>);
 
 impl Display for Numbered {
@@ -82,7 +82,7 @@ impl Display for Numbered {
 }
 
 /// A peer's address, or that it isn't known.
-#[derive(Clone, Copy, Debug)]
+#[derive(Clone, Copy)]
 struct Addressed(Option<SocketAddr>);
 
 impl Display for Addressed {
@@ -113,7 +113,7 @@ impl Display for Named {
 }
 
 /// How a link's two threads ended, where that is known.
-#[derive(Clone, Copy, Debug)]
+#[derive(Clone, Copy)]
 pub(crate) struct Ends {
     pub(crate) reader: Option<ReaderEnd>,
     pub(crate) writer: Option<WriterEnd>,
@@ -163,7 +163,7 @@ fn writer_word(end: Option<WriterEnd>) -> &'static str
 }
 
 /// The line of a link.
-#[derive(Clone, Copy, Debug)]
+#[derive(Clone, Copy)]
 pub(crate) struct LinkLine {
     pub(crate) named: Named,
     pub(crate) ends: Ends,

@@ -937,7 +937,9 @@ fn print_config<W: Sink, F: Sink>(
     let Ok(text) = config_text(alloc, serving) else {
         return write_fault(faults, Fault::NoMemory);
     };
-    match write_all(writer, &text) {
+    let written = write_all(writer, &text);
+    drop(text);
+    match written {
         Ok(()) => DONE,
         Err(_) => write_fault(faults, Fault::Output),
     }

@@ -12,7 +12,7 @@ use gn_words::{Group, OptionRow, Page, Takes, Unread, command_of, is_set};
 use std::alloc::{AllocError, Global};
 
 /// A history is shown.
-#[derive(Clone, Copy, Debug)]
+#[derive(Clone, Copy)]
 pub struct Show {
     /// What of it: its steps, or its counters.
     pub view: View,

@@ -8,7 +8,7 @@ use std::io::ErrorKind;
 use std::net::SocketAddr;
 
 /// What the system said, and of what. Its text is its line, with the line feed.
-#[derive(Clone, Copy, Debug)]
+#[derive(Clone, Copy)]
 pub(crate) enum Told {
     /// It said nothing.
     Nothing,
