@@ -1,5 +1,6 @@
 pub mod CountLemmas
 pub mod LinesLemmas
+pub mod PieceLemmas
 pub mod RowLemmas
 pub mod ShowLemmas
 pub mod ShowingLemmas

@@ -1,5 +1,5 @@
 -- What is shown of a whole text.
-use Rattle.std.proofs.Common.{◌≡◌, ◌+◌, ◌++◌, ◌∙◌, inl, inr, ℕ, List, [], length, drop, refl, sym, ap, subst, true, false, true≢false, append-nil, IfErr, IfSome, Option, Some, None, Result, Ok, Err}
+use Rattle.std.proofs.Common.{◌≡◌, ◌++◌, ◌∙◌, inl, inr, ℕ, List, [], length, drop, refl, sym, ap, subst, true, true≢false, append-nil, IfErr, IfSome, Option, Some, None, Result, Ok, Err}
 use Rattle.std.specs.Prelude.{IsOk, OnOk}
 use Rattle.std.specs.Result.{IsErrAnd}
 use Rattle.std.proofs.Math.Seq.{drop-append_seam}

@@ -1,5 +1,5 @@
 -- A history that is shown as its lines are read.
-use Rattle.std.proofs.Common.{◌≡◌, ◌+◌, ◌-◌, ◌++◌, ◌∙◌, ℕ, List, [], ◌∷◌, length, drop, get_or, reverse, refl, sym, ap, subst, arith, append_assoc, append-nil, length-append, Option, Some, None, Result, Ok, Err}
+use Rattle.std.proofs.Common.{◌≡◌, ◌+◌, ◌++◌, ◌∙◌, ℕ, List, [], ◌∷◌, length, drop, get_or, reverse, refl, sym, ap, subst, arith, append_assoc, append-nil, length-append, Option, Some, None, Result, Ok, Err}
 use Rattle.std.proofs.lemmas.List.{drop-drop, reverse-append}
 use Rattle.std.specs.Prelude.{IfErr, option_map}
 use Rattle.std.specs.Result.{IsErrAnd}

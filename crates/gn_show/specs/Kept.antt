@@ -2,10 +2,13 @@
 use Rattle.std.specs.Prelude.{◌≡◌, ℕ, List, ◌∷◌, [], Option, option_map}
 use Rattle.std.specs.BTreeMap.{get}
 use Rattle.std.specs.Ordering.{nat_cmp}
+use Rattle.std.specs.Option.{option_map_or}
 use Rattle.std.specs.declared.alloc.Global.{Global}
+use Rattle.hex.specs.Hex.{encode_lower}
+use Rattle.gn_wire.specs.declared.kind.Guid.{Guid}
 use Rattle.gn_rules.specs.Flight.{Admission}
 use Rattle.gn_rules.specs.declared.receipt.Step.{Step}
-use Rattle.gn_show.specs.Rows.{Row}
+use Rattle.gn_show.specs.Rows.{Row, number_field}
 use Rattle.gn_show.specs.Subjects.{waiting}
 use Rattle.gn_show.specs.Times.{Place}
 use Rattle.gn_show.specs.declared.clock.Moment.{Moment}
@@ -42,6 +45,10 @@ placed moment = record { index = moment.index; time = moment.time.now }
 abbrev pub row_seen : Shown → Row
 row_seen row = record { from = row.from; to = row.to; packet = option_map (λ d. d.now) row.packet; queued = row.queued }
 
+-- an ID in hex digits, where there is one
+abbrev pub id_field : Option Guid → List ℕ
+id_field id = option_map_or (λ id. encode_lower id.0) id []
+
 -- the fields of a packet
 abbrev pub fields_seen : PacketFields → List (List ℕ)
-fields_seen f = f.kind.items ∷ f.id.items ∷ f.ttl.items ∷ f.hops.items ∷ f.length.items ∷ []
+fields_seen f = f.kind.now ∷ id_field f.id ∷ number_field f.ttl ∷ number_field f.hops ∷ number_field f.length ∷ []

@@ -8,5 +8,6 @@ pub mod Times
 pub mod Values
 pub mod Writers
 -- Words of the proofs.
+pub mod Pieces
 pub mod Showing
 pub mod Tokens

@@ -1,7 +1,7 @@
 //! How a history is shown.
 
 /// How a step is shown.
-#[derive(Clone, Copy, Debug, PartialEq, Eq)]
+#[derive(Clone, Copy)]
 pub enum Form {
     /// In plain words, in columns.
     Plain,
@@ -12,7 +12,7 @@ pub enum Form {
 }
 
 /// What of a history is shown.
-#[derive(Clone, Copy, Debug, PartialEq, Eq)]
+#[derive(Clone, Copy)]
 pub enum View {
     /// Its steps.
     Steps(Form),

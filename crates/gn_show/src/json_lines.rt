@@ -37,9 +37,9 @@ fn json_line(
 ) -> Result<Vec<u8>, AllocError>
     ensures { IfOk result (λ line. line.items ≡ json_line (seen subject.entry) (placed moment.entry) step.now) }
 {
-    let mut tokens = Tokens::over(text);
-    put_step(alloc, &mut tokens, subject, moment.index, step)?;
-    let mut line = tokens.into_text();
+    let mut tokens = Tokens::over(alloc, text);
+    put_step(&mut tokens, subject, moment.index, step);
+    let mut line = tokens.into_text()?;
     add_time(&mut line, moment.time)?;
     line.push(b'\n')?;
     Ok(line)

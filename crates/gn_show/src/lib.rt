@@ -17,6 +17,7 @@ mod stats;
 mod step_json;
 mod text;
 mod tokens;
+mod words;
 
 pub use form::{Form, View};
 pub use shows::show;

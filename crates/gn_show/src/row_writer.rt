@@ -14,6 +14,7 @@ const MOST: usize = 16_384;
 /// Writes the rows of a step, and then those of the next. It is seen as the text of this step's rows.
 #[derive(Drop)]
 pub(crate) struct RowWriter {
+    alloc: Global,
     writer: Writer<Vec<u8>>,
     /// How many bytes are of the steps before.
     begun: usize,
@@ -63,6 +64,7 @@ impl RowWriter {
         ensures { result ≡ [] }
     {
         RowWriter {
+            alloc,
             writer: new_writer(alloc),
             begun: 0,
         }
@@ -70,25 +72,25 @@ impl RowWriter {
 
     /// Begins a step, which has no row yet.
     #[tactic(auto, using(std::proofs::lemmas::List::drop_all))]
-    pub(crate) fn begin(&mut self, alloc: Global)
+    pub(crate) fn begin(&mut self)
         ensures { self.new ≡ [] }
     {
         let written = self.writer.get_ref().len();
         if written < MOST {
             self.begun = written;
         } else {
-            renew(&mut self.writer, alloc);
+            renew(&mut self.writer, self.alloc);
             self.begun = 0;
         }
     }
 
     /// Appends a row.
     #[tactic(auto, using(crate::proofs::RowLemmas::row_after))]
-    pub(crate) fn push(&mut self, alloc: Global, fields: &[&[u8]]) -> Result<(), AllocError>
+    pub(crate) fn push(&mut self, fields: &[&[u8]]) -> Result<(), AllocError>
         ensures { OnOk result (self.new ≡ self.old ++ row_text default_writer (map (λ f. f.now) fields.now)) }
     {
         if write_row(&mut self.writer, fields).is_err() {
-            renew(&mut self.writer, alloc);
+            renew(&mut self.writer, self.alloc);
             self.begun = 0;
             return Err(AllocError);
         }

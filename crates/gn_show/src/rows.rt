@@ -1,12 +1,11 @@
 //! The rows of a step: one for each packet that it admits, refuses, sends, drops or takes.
 #![tactic(auto, using(std::proofs::Common::append_assoc))]
 
-ghost use Rattle.std.specs.Prelude.{◌≡◌, ◌++◌, ◌∷◌, if◌then◌else◌, List, [], Some, length, map, IfOk, OnOk, option_map};
+ghost use Rattle.std.specs.Prelude.{◌≡◌, ◌++◌, ◌∷◌, if◌then◌else◌, List, [], Some, length, IfOk, OnOk, option_map};
 ghost use Rattle.std.specs.List.{flat_map};
 ghost use Rattle.std.specs.declared.alloc.Global.{Global};
-ghost use Rattle.hex.specs.Hex.{encode_lower};
 ghost use Rattle.gn_rules.specs.declared.receipt.Step.{Step};
-ghost use Rattle.gn_show.specs.Kept.{Follows, fields_seen, placed, row_seen, seen};
+ghost use Rattle.gn_show.specs.Kept.{Follows, fields_seen, id_field, placed, row_seen, seen};
 ghost use Rattle.gn_show.specs.Rows.{lines_of, number_field, origin_of, own_line, packet_fields, packet_of, queued_field, row_line, send_line, step_lines, taken_row, taker};
 
 use crate::clock::Moment;
@@ -14,12 +13,12 @@ use crate::flight::{Flight, Subject};
 use crate::row_writer::RowWriter;
 use gn_numbers::{counter_name, event_name, kind_names};
 use gn_rules::{ConnId, Counter, Event, Reply, Sending, Step};
-use gn_text::{push_hex, push_number};
-use gn_wire::Descriptor;
+use gn_wire::{Descriptor, Guid};
+use itoa::Buffer;
 use std::alloc::{AllocError, Global};
 
 /// What a row says of a packet.
-#[derive(Drop)]
+#[derive(Clone, Copy)]
 pub(crate) struct Row<'a> {
     from: Option<ConnId>,
     to: Option<ConnId>,
@@ -28,26 +27,32 @@ pub(crate) struct Row<'a> {
 }
 
 /// What a row says of the packet itself.
-#[derive(Drop)]
+#[derive(Clone, Copy)]
 pub(crate) struct PacketFields {
-    kind: Vec<u8>,
-    id: Vec<u8>,
-    ttl: Vec<u8>,
-    hops: Vec<u8>,
-    length: Vec<u8>,
+    kind: &'static str,
+    id: Option<Guid>,
+    ttl: Option<u32>,
+    hops: Option<u32>,
+    length: Option<u32>,
+}
+
+/// A step whose packets get rows.
+#[derive(Clone, Copy)]
+pub(crate) struct Shown<'a> {
+    alloc: Global,
+    moment: Moment<'a>,
+    step: &'a Step,
+    /// The packet that its event speaks of.
+    subject: Option<Subject<'a>>,
 }
 
 /// A number in decimal digits, where there is one.
-fn number_field(alloc: Global, number: Option<u32>) -> Result<Vec<u8>, AllocError>
-    ensures { IfOk result (λ field. field.items ≡ number_field number) }
+fn number_field<'a>(digits: &'a mut Buffer, number: Option<u32>) -> &'a [u8]
+    ensures { result.now ≡ number_field number }
 {
-    let mut field = Vec::new(alloc);
     match number {
-        Some(number) => {
-            push_number(&mut field, number)?;
-            Ok(field)
-        }
-        None => Ok(field),
+        Some(number) => digits.format(number).as_bytes(),
+        None => b"",
     }
 }
 
@@ -60,13 +65,18 @@ fn copied(alloc: Global, bytes: &[u8]) -> Result<Vec<u8>, AllocError>
     Ok(copy)
 }
 
-/// Bytes in hex digits.
-fn hex_field(alloc: Global, bytes: &[u8]) -> Result<Vec<u8>, AllocError>
-    ensures { IfOk result (λ field. field.items ≡ encode_lower bytes.now) }
+/// An ID in hex digits, where there is one.
+fn id_field<'a>(digits: &'a mut [u8; 32], id: Option<Guid>) -> &'a [u8]
+    ensures { result.now ≡ id_field id }
 {
-    let mut field = Vec::new(alloc);
-    push_hex(&mut field, bytes)?;
-    Ok(field)
+    match id {
+        Some(id) => {
+            // An ID has 16 bytes, so its digits fit.
+            let _written = hex::encode_to_slice(id.0.as_slice(), digits);
+            digits
+        }
+        None => b"",
+    }
 }
 
 /// Whether a packet was queued, where it was sent.
@@ -87,74 +97,58 @@ fn payload_length(packet: &Descriptor) -> u32
     packet.payload().len() as u32
 }
 
-/// What a row says of a packet.
-fn known_fields(alloc: Global, packet: &Descriptor) -> Result<PacketFields, AllocError>
-    ensures { IfOk result (λ fields. fields_seen fields ≡ packet_fields (Some packet.now)) }
-{
-    let kind = copied(alloc, kind_names(packet.kind()).json.as_bytes())?;
-    let id = hex_field(alloc, &packet.id().0)?;
-    let ttl = number_field(alloc, Some(u32::from(packet.ttl())))?;
-    let hops = number_field(alloc, Some(u32::from(packet.hops())))?;
-    let length = number_field(alloc, Some(payload_length(packet)))?;
-    Ok(PacketFields {
-        kind,
-        id,
-        ttl,
-        hops,
-        length,
-    })
-}
-
 /// What a row says of a packet, where it is known.
-fn fields_of(alloc: Global, packet: Option<&Descriptor>) -> Result<PacketFields, AllocError>
-    ensures { IfOk result (λ fields. fields_seen fields ≡ packet_fields (option_map (λ d. d.now) packet.entry)) }
+fn fields_of(packet: Option<&Descriptor>) -> PacketFields
+    ensures { fields_seen result ≡ packet_fields (option_map (λ d. d.now) packet.entry) }
 {
     match packet {
-        Some(packet) => known_fields(alloc, packet),
-        None => Ok(PacketFields {
-            kind: Vec::new(alloc),
-            id: Vec::new(alloc),
-            ttl: Vec::new(alloc),
-            hops: Vec::new(alloc),
-            length: Vec::new(alloc),
-        }),
+        Some(packet) => PacketFields {
+            kind: kind_names(packet.kind()).json,
+            id: Some(packet.id()),
+            ttl: Some(u32::from(packet.ttl())),
+            hops: Some(u32::from(packet.hops())),
+            length: Some(payload_length(packet)),
+        },
+        None => PacketFields {
+            kind: "",
+            id: None,
+            ttl: None,
+            hops: None,
+            length: None,
+        },
     }
 }
 
 /// Appends the line of a row.
-fn push_row(
-    alloc: Global,
-    rows: &mut RowWriter,
-    moment: Moment<'_>,
-    step: &Step,
-    row: &Row<'_>,
-) -> Result<(), AllocError>
-    ensures { OnOk result (rows.new ≡ rows.old ++ row_line (placed moment.entry) step.now (row_seen row.now)) }
+fn push_row(rows: &mut RowWriter, shown: &Shown<'_>, row: &Row<'_>) -> Result<(), AllocError>
+    ensures { OnOk result (rows.new
+        ≡ rows.old ++ row_line (placed shown.now.moment) shown.now.step.now (row_seen row.now)) }
 {
-    let index = number_field(alloc, Some(moment.index))?;
-    let time = copied(alloc, moment.time)?;
-    let actor = number_field(alloc, Some(step.actor))?;
-    let from = number_field(alloc, row.from)?;
-    let to = number_field(alloc, row.to)?;
-    let packet = fields_of(alloc, row.packet)?;
-    rows.push(
-        alloc,
-        &[
-            index.as_slice(),
-            time.as_slice(),
-            actor.as_slice(),
-            event_name(&step.event).as_bytes(),
-            counter_name(Counter::of(&step.reply)).as_bytes(),
-            from.as_slice(),
-            to.as_slice(),
-            packet.kind.as_slice(),
-            packet.id.as_slice(),
-            packet.ttl.as_slice(),
-            packet.hops.as_slice(),
-            packet.length.as_slice(),
-            queued_field(row.queued),
-        ],
-    )
+    let packet = fields_of(row.packet);
+    let time = copied(shown.alloc, shown.moment.time)?;
+    let mut index = Buffer::new();
+    let mut actor = Buffer::new();
+    let mut from = Buffer::new();
+    let mut to = Buffer::new();
+    let mut id = [0; 32];
+    let mut ttl = Buffer::new();
+    let mut hops = Buffer::new();
+    let mut length = Buffer::new();
+    rows.push(&[
+        index.format(shown.moment.index).as_bytes(),
+        time.as_slice(),
+        actor.format(shown.step.actor).as_bytes(),
+        event_name(&shown.step.event).as_bytes(),
+        counter_name(Counter::of(&shown.step.reply)).as_bytes(),
+        number_field(&mut from, row.from),
+        number_field(&mut to, row.to),
+        packet.kind.as_bytes(),
+        id_field(&mut id, packet.id),
+        number_field(&mut ttl, packet.ttl),
+        number_field(&mut hops, packet.hops),
+        number_field(&mut length, packet.length),
+        queued_field(row.queued),
+    ])
 }
 
 /// Which connection brought a packet.
@@ -188,132 +182,96 @@ fn taker(event: &Event) -> Option<ConnId>
 }
 
 /// Appends the line of the packet that a step's event speaks of.
-fn push_own(
-    alloc: Global,
-    rows: &mut RowWriter,
-    moment: Moment<'_>,
-    step: &Step,
-    subject: Option<Subject<'_>>,
-    to: Option<ConnId>,
-) -> Result<(), AllocError>
+fn push_own(rows: &mut RowWriter, shown: &Shown<'_>, to: Option<ConnId>) -> Result<(), AllocError>
     ensures { OnOk result (rows.new
-        ≡ rows.old ++ own_line (seen subject.entry) (placed moment.entry) step.now to) }
+        ≡ rows.old ++ own_line (seen shown.now.subject) (placed shown.now.moment) shown.now.step.now to) }
 {
     let row = Row {
-        from: origin_of(subject),
+        from: origin_of(shown.subject),
         to,
-        packet: packet_of(subject),
+        packet: packet_of(shown.subject),
         queued: None,
     };
-    push_row(alloc, rows, moment, step, &row)
+    push_row(rows, shown, &row)
 }
 
 /// Appends the line of a send.
-fn push_send(
-    alloc: Global,
-    rows: &mut RowWriter,
-    moment: Moment<'_>,
-    step: &Step,
-    subject: Option<Subject<'_>>,
-    sending: &Sending,
-) -> Result<(), AllocError>
+fn push_send(rows: &mut RowWriter, shown: &Shown<'_>, sending: &Sending) -> Result<(), AllocError>
     ensures { OnOk result (rows.new
-        ≡ rows.old ++ send_line (seen subject.entry) (placed moment.entry) step.now sending.now) }
+        ≡ rows.old ++ send_line (seen shown.now.subject) (placed shown.now.moment) shown.now.step.now sending.now) }
 {
     let row = Row {
-        from: origin_of(subject),
+        from: origin_of(shown.subject),
         to: Some(sending.to),
         packet: Some(&sending.packet),
         queued: Some(sending.queued),
     };
-    push_row(alloc, rows, moment, step, &row)
+    push_row(rows, shown, &row)
 }
 
 /// Appends a line for each send.
-fn push_sends(
-    alloc: Global,
-    rows: &mut RowWriter,
-    moment: Moment<'_>,
-    step: &Step,
-    subject: Option<Subject<'_>>,
-    sends: &[Sending],
-) -> Result<(), AllocError>
+fn push_sends(rows: &mut RowWriter, shown: &Shown<'_>, sends: &[Sending]) -> Result<(), AllocError>
     ensures { OnOk result (rows.new
-        ≡ rows.old ++ flat_map (send_line (seen subject.entry) (placed moment.entry) step.now) sends.now) }
+        ≡ rows.old
+        ++ flat_map (send_line (seen shown.now.subject) (placed shown.now.moment) shown.now.step.now) sends.now) }
 {
     for sending in sends {
-        push_send(alloc, rows, moment, step, subject, sending)?;
+        push_send(rows, shown, sending)?;
     }
     Ok(())
 }
 
 /// Appends the lines of a routing.
 fn push_routed(
-    alloc: Global,
     rows: &mut RowWriter,
-    moment: Moment<'_>,
-    step: &Step,
-    subject: Option<Subject<'_>>,
+    shown: &Shown<'_>,
     sends: &[Sending],
     local: bool,
 ) -> Result<(), AllocError>
     ensures { OnOk result (rows.new
-        ≡ rows.old ++ flat_map (send_line (seen subject.entry) (placed moment.entry) step.now) sends.now
-        ++ (if local then own_line (seen subject.entry) (placed moment.entry) step.now (Some 0) else [])) }
+        ≡ rows.old
+        ++ flat_map (send_line (seen shown.now.subject) (placed shown.now.moment) shown.now.step.now) sends.now
+        ++ (if local then own_line (seen shown.now.subject) (placed shown.now.moment) shown.now.step.now (Some 0)
+        else [])) }
 {
-    push_sends(alloc, rows, moment, step, subject, sends)?;
+    push_sends(rows, shown, sends)?;
     if !local {
         return Ok(());
     }
-    push_own(alloc, rows, moment, step, subject, Some(0))
+    push_own(rows, shown, Some(0))
 }
 
 /// Appends the line of what a step takes.
 fn push_taken(
-    alloc: Global,
     rows: &mut RowWriter,
-    moment: Moment<'_>,
-    step: &Step,
+    shown: &Shown<'_>,
     packet: &Descriptor,
 ) -> Result<(), AllocError>
     ensures { OnOk result (rows.new
-        ≡ rows.old ++ row_line (placed moment.entry) step.now (taken_row step.now.event packet.now)) }
+        ≡ rows.old
+        ++ row_line (placed shown.now.moment) shown.now.step.now (taken_row shown.now.step.now.event packet.now)) }
 {
     let row = Row {
         from: None,
-        to: taker(&step.event),
+        to: taker(&shown.step.event),
         packet: Some(packet),
         queued: None,
     };
-    push_row(alloc, rows, moment, step, &row)
+    push_row(rows, shown, &row)
 }
 
 /// Appends the lines of a step's rows, of which there may be none.
 #[tactic(auto, using(crate::proofs::RowLemmas::row_lines))]
-fn push_lines(
-    alloc: Global,
-    rows: &mut RowWriter,
-    moment: Moment<'_>,
-    step: &Step,
-    subject: Option<Subject<'_>>,
-) -> Result<(), AllocError>
+fn push_lines(rows: &mut RowWriter, shown: &Shown<'_>) -> Result<(), AllocError>
     ensures { OnOk result (rows.new
-        ≡ rows.old ++ lines_of (seen subject.entry) (placed moment.entry) step.now) }
+        ≡ rows.old ++ lines_of (seen shown.now.subject) (placed shown.now.moment) shown.now.step.now) }
 {
-    match &step.reply {
+    match &shown.step.reply {
         Reply::Connected(_) | Reply::TooMany | Reply::Closed(_) => Ok(()),
-        Reply::Routed { sends, local } => push_routed(
-            alloc,
-            rows,
-            moment,
-            step,
-            subject,
-            sends.as_slice(),
-            *local,
-        ),
-        Reply::Sent(sends) => push_sends(alloc, rows, moment, step, subject, sends.as_slice()),
-        Reply::Taken(packet) => push_taken(alloc, rows, moment, step, packet),
-        _ => push_own(alloc, rows, moment, step, subject, None),
+        Reply::Routed { sends, local } => push_routed(rows, shown, sends.as_slice(), *local),
+        Reply::Sent(sends) => push_sends(rows, shown, sends.as_slice()),
+        Reply::Taken(packet) => push_taken(rows, shown, packet),
+        _ => push_own(rows, shown, None),
     }
 }
 
@@ -328,9 +286,14 @@ pub(crate) fn next_lines(
     ensures { IfOk result (λ lines. (past : List (Step Global)) → Follows flight.old past
         → (lines.items ≡ step_lines past (placed moment.entry) step) × Follows flight.new (step ∷ past)) }
 {
-    rows.begin(alloc);
-    let pushed = push_lines(alloc, rows, moment, &step, flight.subject(&step.event));
-    pushed?;
+    rows.begin();
+    let shown = Shown {
+        alloc,
+        moment,
+        step: &step,
+        subject: flight.subject(&step.event),
+    };
+    push_lines(rows, &shown)?;
     flight.follow(step)?;
     copied(alloc, rows.text())
 }

@@ -30,6 +30,7 @@ use std::mem::replace;
 /// What lines are made in.
 #[derive(Drop)]
 pub(crate) struct LineRoom {
+    alloc: Global,
     /// What writes rows.
     rows: RowWriter,
     /// The memory of the line before.
@@ -78,7 +79,6 @@ fn due_head(due: Due, form: Form) -> &'static [u8]
 
 /// The lines of the next step.
 fn line_of(
-    alloc: Global,
     form: Form,
     room: &mut LineRoom,
     flight: &mut Flight,
@@ -89,12 +89,12 @@ fn line_of(
         → (line.items ≡ line_of form past (placed moment.entry) step) × Fits form flight.new (step ∷ past)) }
 {
     match form {
-        Form::Plain => plain_line(alloc, moment.index, &step),
+        Form::Plain => plain_line(room.alloc, moment.index, &step),
         Form::Json => {
-            let text = replace(&mut room.text, Vec::new(alloc));
-            next_json(alloc, text, flight, moment, step)
+            let text = replace(&mut room.text, Vec::new(room.alloc));
+            next_json(room.alloc, text, flight, moment, step)
         }
-        Form::Rows => next_lines(alloc, &mut room.rows, flight, moment, step),
+        Form::Rows => next_lines(room.alloc, &mut room.rows, flight, moment, step),
     }
 }
 
@@ -108,6 +108,7 @@ impl Showing {
             time: Vec::new(alloc),
             flight: Flight::new(alloc),
             room: LineRoom {
+                alloc,
                 rows: RowWriter::new(alloc),
                 text: Vec::new(alloc),
             },
@@ -117,7 +118,7 @@ impl Showing {
     }
 
     /// Shows the next step. Its lines wait after what waited.
-    fn show_step(&mut self, alloc: Global, form: Form, step: Step) -> Result<(), AllocError>
+    fn show_step(&mut self, form: Form, step: Step) -> Result<(), AllocError>
         ensures shown { OnOk result ((past : List (Step Global)) → Fits form self.old.flight past
             → (self.new.block ≡ self.old.block ++ line_of form past (stands self.old) step)
             × Fits form self.new.flight (step ∷ past)) }
@@ -130,7 +131,7 @@ impl Showing {
             index: self.index,
             time: &self.time,
         };
-        let line = line_of(alloc, form, &mut self.room, &mut self.flight, moment, step)?;
+        let line = line_of(form, &mut self.room, &mut self.flight, moment, step)?;
         self.block.add(&line)?;
         self.room.text = line;
         self.index = next;
@@ -138,13 +139,7 @@ impl Showing {
     }
 
     /// Shows what a line says. It waits after what waited.
-    fn show_entry(
-        &mut self,
-        alloc: Global,
-        form: Form,
-        line: &[u8],
-        entry: Entry,
-    ) -> Result<(), AllocError>
+    fn show_entry(&mut self, form: Form, line: &[u8], entry: Entry) -> Result<(), AllocError>
         ensures ok { OnOk result (ShowsOn form line.now entry self.old self.new) }
         ensures due { OnOk result (self.new.due ≡ self.old.due) }
         ensures err { OnErr result (self.new.block ≡ self.old.block) }
@@ -152,7 +147,7 @@ impl Showing {
         match entry {
             Entry::Skipped => pass_comment(&mut self.time, line),
             Entry::Frame => self.block.add(due_head(self.due, form)),
-            Entry::Step(step) => self.show_step(alloc, form, step),
+            Entry::Step(step) => self.show_step(form, step),
         }
     }
 
@@ -177,7 +172,6 @@ impl Showing {
     /// Shows the lines of a history.
     fn show_lines<S: Source, W: Sink>(
         &mut self,
-        alloc: Global,
         form: Form,
         lines: &mut LineReader,
         source: &mut S,
@@ -193,8 +187,8 @@ impl Showing {
             (place (S.state source.old) lines.old) (place (S.state source.new) lines.new) }
         ensures writes { WritesUnless result (W.state sink.old) (W.state sink.new) }
     {
-        while let Some(entry) = next_entry(alloc, &mut self.due, lines, source)? {
-            self.show_entry(alloc, form, lines.line(), entry)?;
+        while let Some(entry) = next_entry(self.room.alloc, &mut self.due, lines, source)? {
+            self.show_entry(form, lines.line(), entry)?;
             self.write_due(lines, sink)?;
         }
         Ok(())
@@ -229,7 +223,7 @@ pub(crate) fn show_steps<S: Source, W: Sink>(
 {
     let mut lines = LineReader::new(alloc);
     let mut showing = Showing::new(alloc);
-    let shown = showing.show_lines(alloc, form, &mut lines, source, sink);
+    let shown = showing.show_lines(form, &mut lines, source, sink);
     if is_cut(shown) {
         return shown;
     }

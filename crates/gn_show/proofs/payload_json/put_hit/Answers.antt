@@ -1,6 +1,5 @@
-use Rattle.std.proofs.Common.{append_assoc}
+use Rattle.gn_show.proofs.PieceLemmas.{◌>>◌}
 use Rattle.gn_show.proofs.payload_json.put_hit.Goals as goal
 
 pub returns : goal.returns
-returns c =
-    rw (c.in_ok-put_hex-2.ensures, c.in_ok-put_number-2.ensures, c.in_ok-put_hex.ensures, c.in_ok-put_results.ensures, c.in_ok-put_name.ensures, c.in_ok-put_number.ensures, c.in_ok-put_ip.ensures, c.in_ok-begin_object.ensures, c.ip.ensures, c.from.ensures, c.port.ensures, c.servent.ensures, c.speed.ensures, c.trailer.ensures, append_assoc, append_assoc, append_assoc, append_assoc, append_assoc, append_assoc, append_assoc, append_assoc) at c.end_object.ensures
+returns c = c.begin_object.ensures >> (rw c.ip.ensures at c.put_ip.ensures) >> (rw (c.from.ensures, c.port.ensures) at c.put_number.ensures) >> c.put_name.ensures >> c.put_results.ensures >> (rw c.servent.ensures at c.put_hex.ensures) >> (rw c.speed.ensures at c.put_number-2.ensures) >> (rw c.trailer.ensures at c.put_hex-2.ensures) >> c.end_object.ensures

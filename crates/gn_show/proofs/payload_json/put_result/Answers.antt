@@ -1,7 +1,6 @@
-use Rattle.std.proofs.Common.{append_assoc}
+use Rattle.gn_show.proofs.PieceLemmas.{◌>>◌}
 use Rattle.gn_show.proofs.TokenLemmas.{text_then}
 use Rattle.gn_show.proofs.payload_json.put_result.Goals as goal
 
 pub returns : goal.returns
-returns c =
-    simp (append_assoc, text_then) (simp (append_assoc, c.in_ok-put_number-2.ensures, c.in_ok-put_words.ensures, c.in_ok-put_number.ensures, c.in_ok-put_hex.ensures, c.in_ok-begin_object.ensures) at c.end_object.ensures)
+returns c = simp text_then (c.begin_object.ensures >> c.put_hex.ensures >> c.put_number.ensures >> c.put_words.ensures >> c.put_number-2.ensures >> c.end_object.ensures)

@@ -1,4 +1,4 @@
-use Rattle.std.specs.Prelude.{◌≡◌, ◌++◌, ◌∷◌, map}
+use Rattle.std.specs.Prelude.{◌≡◌, ◌++◌, ◌∷◌, false, map}
 use Rattle.json.specs.Token.{begin_array}
 use Rattle.json.specs.Tree.{items_tokens}
 use Rattle.serde_json.specs.View.{items_of}
@@ -8,5 +8,6 @@ use Rattle.gn_show.proofs.payload_json.put_results.Given as goal
 
 abbrev pub invariant-loop-found : goal.invariant-loop-found
 invariant-loop-found l =
-    l.tokens ++ items_tokens (items_outline (items_of (map result_data l.found-iterator)))
-    ≡ l.fn.tokens ++ begin_array ∷ items_tokens (items_outline (items_of (map result_data l.fn.hit.results)))
+    l.tokens.ran_out ≡ false → (l.fn.tokens.ran_out ≡ false)
+    × (l.tokens.pieces ++ items_tokens (items_outline (items_of (map result_data l.found-iterator)))
+    ≡ l.fn.tokens.pieces ++ begin_array ∷ items_tokens (items_outline (items_of (map result_data l.fn.hit.results))))

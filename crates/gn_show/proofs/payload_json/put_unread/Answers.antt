@@ -1,6 +1,5 @@
-use Rattle.std.proofs.Common.{append_assoc}
+use Rattle.gn_show.proofs.PieceLemmas.{◌>>◌}
 use Rattle.gn_show.proofs.payload_json.put_unread.Goals as goal
 
 pub returns : goal.returns
-returns c =
-    simp (append_assoc, c.in_ok-put_hex.ensures, c.in_ok-begin_object.ensures) at c.end_object.ensures
+returns c = c.begin_object.ensures >> c.put_hex.ensures >> c.end_object.ensures

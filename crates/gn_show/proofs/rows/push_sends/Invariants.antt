@@ -6,4 +6,4 @@ use Rattle.gn_show.proofs.rows.push_sends.Given as goal
 
 abbrev pub invariant-loop-sending : goal.invariant-loop-sending
 invariant-loop-sending l =
-    l.rows ≡ l.fn.rows ++ flat_map (send_line (seen l.subject) (placed l.moment) l.step) (take l.sending-index l.sends)
+    l.rows ≡ l.fn.rows ++ flat_map (send_line (seen l.shown.subject) (placed l.shown.moment) l.shown.step.now) (take l.sending-index l.sends)

@@ -1,6 +1,5 @@
-use Rattle.std.proofs.Common.{append_assoc}
+use Rattle.gn_show.proofs.PieceLemmas.{◌>>◌}
 use Rattle.gn_show.proofs.step_json.put_numbered.Goals as goal
 
 pub returns : goal.returns
-returns c =
-    simp (append_assoc, c.in_ok-put_text.ensures, c.in_ok-put_number.ensures, c.in_ok-begin_object.ensures) at c.end_object.ensures
+returns c = c.begin_object.ensures >> c.put_number.ensures >> c.put_text.ensures >> c.end_object.ensures

@@ -1,6 +1,5 @@
-use Rattle.std.proofs.Common.{append_assoc}
+use Rattle.gn_show.proofs.PieceLemmas.{◌>>◌}
 use Rattle.gn_show.proofs.step_json.put_step.Goals as goal
 
 pub returns : goal.returns
-returns c =
-    simp (append_assoc, c.in_ok-put_number-2.ensures, c.in_ok-put_reply.ensures, c.in_ok-put_name-2.ensures, c.in_ok-put_event.ensures, c.in_ok-put_name.ensures, c.in_ok-put_number.ensures, c.in_ok-begin_object.ensures) at c.end_object.ensures
+returns c = c.begin_object.ensures >> c.put_number.ensures >> c.put_name.ensures >> c.put_event.ensures >> c.put_name-2.ensures >> c.put_reply.ensures >> c.put_number-2.ensures >> c.end_object.ensures

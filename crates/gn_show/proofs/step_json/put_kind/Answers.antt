@@ -1,0 +1,5 @@
+use Rattle.gn_show.proofs.PieceLemmas.{◌>>◌}
+use Rattle.gn_show.proofs.step_json.put_kind.Goals as goal
+
+pub returns : goal.returns
+returns c = c.begin_object.ensures >> c.put_text.ensures >> c.end_object.ensures
