@@ -7,6 +7,11 @@ use Rattle.gn_replay.specs.declared.form.Form.TheVariants.{Whole}
 use Rattle.gn_replay.specs.Events.{prints}
 use Rattle.gn_replay.specs.Playing.{Playing, after_playing, said}
 
+-- what follows from what holds where all is well
+pub then_so : {U E P Q : Type 0} (r : Result U E) → (P → Q) → OnOk r P → OnOk r Q
+then_so (Ok u) so holds = so holds
+then_so (Err e) so holds = tt
+
 -- where all is printed, a text is
 pub all_said : {A U E : Type 0} (r : Result U E) (v : Playing A) (out text : List ℕ) → v.form ≡ Whole → OnOk r (out ≡ v.out ++ text)
     → OnOk r (record v { out = out } ≡ after_playing v (prints v.past text))

@@ -1,9 +1,8 @@
 -- A router that is given the steps of a history as they are read.
-use Rattle.std.proofs.Common.{◌≡◌, ◌<◌, ◌≤◌, ◌+◌, ◌^◌, ◌++◌, ◌∙◌, ℕ, List, [], ◌∷◌, length, reverse, Option, Some, None, Result, Ok, Err, refl, sym, ap, subst, arith, append-nil, append_assoc, length-append}
+use Rattle.std.proofs.Common.{◌≡◌, ◌<◌, ◌≤◌, ◌+◌, ◌^◌, ◌++◌, ◌∙◌, ℕ, List, [], ◌∷◌, length, reverse, Some, Result, Ok, Err, refl, sym, ap, subst, arith, append-nil, append_assoc, length-append}
 use Rattle.std.specs.Prelude.{is_ok}
 use Rattle.std.specs.List.{slice_get}
 use Rattle.std.specs.Result.{IsErrAnd}
-use Rattle.std.proofs.KnownBytes.{Consumes-nil}
 use Rattle.gn_rules.specs.declared.config.Config.{Config}
 use Rattle.gn_rules.specs.declared.receipt.Step.{Step}
 use Rattle.gn_rules.specs.Answer.{answer, IsLegal}
@@ -13,16 +12,16 @@ use Rattle.gn_text.specs.declared.fault.CaptureRefusal.TheVariants.{Fault, NoMem
 use Rattle.gn_text.specs.Faults.{IsRefused}
 use Rattle.gn_text.specs.Parsed.{Numbered}
 use Rattle.gn_capture.specs.Histories.{map_result, steps_left}
-use Rattle.gn_capture.proofs.StepsLemmas.{known, one_known}
+use Rattle.gn_capture.proofs.StepsLemmas.{known}
 use Rattle.gn_stream.specs.declared.fault.StreamFault.{StreamFault}
 use Rattle.gn_stream.specs.declared.fault.StreamFault.TheVariants.{Input, Text}
 use Rattle.gn_stream.specs.Left.{AreGone, Left, numbered_left}
-use Rattle.gn_stream.specs.Reading.{IsReadOf, Passes, Place, left_of}
+use Rattle.gn_stream.specs.Reading.{IsReadOf, Passes, Place}
 use Rattle.gn_stream.specs.Steps.{AreRefused, IsEnding, IsStep}
 use Rattle.gn_stream.proofs.PassLemmas.{fault_then, gone_none, gone_then, passes_none, passes_so, passes_then}
 use Rattle.gn_replay.specs.declared.judgement.Judgement.TheVariants.{Legal, WrongAt}
 use Rattle.gn_replay.specs.declared.judgement.WrongStep.{WrongStep}
-use Rattle.gn_replay.specs.Judgements.{ArePassed, IsFound, IsFoundIn, SayMade}
+use Rattle.gn_replay.specs.Judgements.{ArePassed, IsFoundIn, SayMade}
 use Rattle.gn_replay.proofs.JudgeLemmas.{IsLeftOf, IsRepeating, found_wrong, legal_few, repeating_more, rest_more}
 
 -- what is left is refused, and so is it with what was read of it

@@ -2,8 +2,6 @@
 use Rattle.std.specs.Prelude.{◌≡◌, ◌+◌, ℕ, List, [], length, reverse, take, Some, IsOk, Result, Ok}
 use Rattle.std.specs.List.{slice_get}
 use Rattle.gn_rules.specs.declared.config.Config.{Config}
-use Rattle.gn_rules.specs.declared.config.Own.{Own}
-use Rattle.gn_rules.specs.declared.limits.Numbers.{Numbers}
 use Rattle.gn_rules.specs.declared.legality.Legality.{Legality}
 use Rattle.gn_rules.specs.declared.legality.Legality.TheVariants as verdict
 use Rattle.gn_rules.specs.declared.receipt.Step.{Step}
@@ -13,7 +11,7 @@ use Rattle.gn_rules.specs.Answer.{answer, IsLegal}
 use Rattle.gn_rules.specs.Legality.{IsFirstWrong}
 use Rattle.gn_text.specs.declared.fault.CaptureFault.{CaptureFault}
 use Rattle.gn_numbers.specs.declared.titles.Text.TheVariants.{History}
-use Rattle.gn_text.specs.Faults.{IsRefused, ◌>>=◌}
+use Rattle.gn_text.specs.Faults.{IsRefused}
 use Rattle.gn_text.specs.Header.{header_of}
 use Rattle.gn_text.specs.Settings.{settings_of}
 use Rattle.gn_capture.specs.Histories.{steps_left}

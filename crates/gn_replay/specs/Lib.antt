@@ -14,3 +14,4 @@ pub mod Runs
 -- Words of the proofs.
 pub mod Judgements
 pub mod Outcomes
+pub mod Sayings

@@ -1,7 +1,7 @@
 //! What is printed of a replay.
 
 /// What is printed of a replay.
-#[derive(Clone, Copy, PartialEq, Eq)]
+#[derive(Clone, Copy)]
 pub(crate) enum Form {
     /// All that its lines do.
     Whole,

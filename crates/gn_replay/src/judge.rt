@@ -6,7 +6,6 @@ ghost use Rattle.gn_stream.specs.Reading.{Passes, place};
 ghost use Rattle.gn_replay.specs.Judgements.{IsFoundOf, IsPassedOf, SayMade};
 ghost use Rattle.gn_replay.specs.declared.judgement.Judgement.TheVariants.{Legal};
 
-use crate::given::add;
 use crate::judgement::{Answer, Judgement, WrongStep};
 use gn_io::Source;
 use gn_rules::{Event, Refusal, RouterCore};
@@ -26,15 +25,6 @@ fn rules_answer<A: Allocator + Copy, C: RouterCore<A>>(
         Err(Refusal::NoMemory) => Err(AllocError),
         Err(refusal) => Ok(Err(refusal)),
     }
-}
-
-/// A copy of a line. An `Err` is out of memory.
-fn copy_line<A: Allocator>(alloc: A, line: &[u8]) -> Result<Vec<u8, A>, AllocError>
-    ensures { IfOk result (λ copy. copy.items ≡ line.now) }
-{
-    let mut copy = Vec::new(alloc);
-    copy.extend_from_slice(line)?;
-    Ok(copy)
 }
 
 /// Reads the steps that are left, since a fault of a later line comes before what is found of an earlier step.
@@ -66,12 +56,12 @@ pub(crate) fn judge<A: Allocator + Copy, C: RouterCore<A>, S: Source>(
         (place (S.state source.old) lines.old) (place (S.state source.new) lines.new)) }
 {
     let mut index = 0u32;
-    while let Some((number, step)) = next_step(alloc, lines, source)? {
+    while let Some((number, mut step)) = next_step(alloc, lines, source)? {
         if !core.is_answered(&step) {
             let answer = rules_answer(core, &step.event);
             drop(step);
             let rules = answer?;
-            let line = copy_line(alloc, lines.line())?;
+            let line = Vec::from_slice(alloc, lines.line())?;
             pass_left(alloc, lines, source)?;
             let wrong = WrongStep {
                 index,
@@ -81,7 +71,9 @@ pub(crate) fn judge<A: Allocator + Copy, C: RouterCore<A>, S: Source>(
             };
             return Ok((Judgement::WrongAt(wrong), index));
         }
-        add(core, step)?;
+        let added = core.add(&mut step);
+        drop(step);
+        added?;
         index += 1;
     }
     Ok((Judgement::Legal, index))

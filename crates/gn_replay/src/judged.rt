@@ -1,6 +1,6 @@
 //! The verdict on a history's text, and its line.
 
-ghost use Rattle.std.specs.Prelude.{◌≡◌, IfOk, IfErr, IfSome, OnOk};
+ghost use Rattle.std.specs.Prelude.{◌≡◌, ◌++◌, ℕ, List, decimal, IfOk, IfErr, IfSome, OnOk};
 ghost use Rattle.gn_capture.specs.Histories.{history_of};
 ghost use Rattle.gn_io.specs.Streams.{NoReadFailed, text_between};
 ghost use Rattle.gn_stream.specs.Left.{AreShort, all_lines, finished_lines};
@@ -17,6 +17,16 @@ use gn_stream::{LineReader, StreamFault, read_history_header};
 use gn_text::push_number;
 use std::alloc::{AllocError, Allocator};
 
+/// The word of a verdict, and the number behind it: that of the steps, or the index of the first wrong one.
+fn verdict_words(legality: Legality, steps: u32) -> (&'static [u8], u32)
+    ensures { (end : List ℕ) → verdict_ended legality steps end ≡ result.0.now ++ decimal result.1 ++ end }
+{
+    match legality {
+        Legality::Legal => (b"legal ", steps),
+        Legality::WrongAt(index) => (b"wrong ", index),
+    }
+}
+
 /// The words of a verdict on a history of so many steps, and what ends them.
 fn verdict_ended<A: Allocator>(
     alloc: A,
@@ -26,17 +36,10 @@ fn verdict_ended<A: Allocator>(
 ) -> Result<Vec<u8, A>, AllocError>
     ensures { IfOk result (λ line. line.items ≡ verdict_ended legality steps end.now) }
 {
+    let (word, number) = verdict_words(legality, steps);
     let mut line = Vec::new(alloc);
-    match legality {
-        Legality::Legal => {
-            line.extend_from_slice(b"legal ")?;
-            push_number(&mut line, steps)?;
-        }
-        Legality::WrongAt(index) => {
-            line.extend_from_slice(b"wrong ")?;
-            push_number(&mut line, index)?;
-        }
-    }
+    line.extend_from_slice(word)?;
+    push_number(&mut line, number)?;
     line.extend_from_slice(end.as_bytes())?;
     Ok(line)
 }
@@ -96,7 +99,7 @@ pub(crate) fn judge_source<A: Allocator + Copy, C: FreshRouter<A> + Drop, S: Sou
 }
 
 /// What a new router finds of a history that a source gives and that may have been cut.
-#[derive(Clone, Copy, Debug)]
+#[derive(Clone, Copy)]
 pub(crate) struct CutJudged {
     pub(crate) legality: Legality,
     /// How many steps it found right.
@@ -117,10 +120,15 @@ pub(crate) fn judge_cut<A: Allocator + Copy, C: FreshRouter<A> + Drop, S: Source
         (S.state source.old) (S.state source.new)) }
 {
     let mut lines = LineReader::of_cut(alloc);
-    let (judgement, steps) = judge_lines::<A, C, S>(alloc, &mut lines, source)?;
+    let judged = judge_lines::<A, C, S>(alloc, &mut lines, source);
+    let lacks_end = lines.has_added_end();
+    drop(lines);
+    let (judgement, steps) = judged?;
+    let legality = judgement.legality();
+    drop(judgement);
     Ok(CutJudged {
-        legality: judgement.legality(),
+        legality,
         steps,
-        lacks_end: lines.has_added_end(),
+        lacks_end,
     })
 }

@@ -10,7 +10,7 @@ use std::alloc::{Allocator, Global};
 pub(crate) type Answer<A> = Result<Reply<A>, Refusal>;
 
 /// A step whose reply isn't the rules' answer.
-#[derive(Debug, Drop)]
+#[derive(Drop)]
 pub(crate) struct WrongStep<A: Allocator = Global> {
     /// How many steps stand before it.
     pub(crate) index: u32,
@@ -23,7 +23,7 @@ pub(crate) struct WrongStep<A: Allocator = Global> {
 }
 
 /// What is found where the events of a history are answered again.
-#[derive(Debug, Drop)]
+#[derive(Drop)]
 pub(crate) enum Judgement<A: Allocator = Global> {
     /// Each reply is the rules' answer.
     Legal,

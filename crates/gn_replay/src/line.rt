@@ -10,6 +10,7 @@ ghost use Rattle.gn_replay.specs.ReplayText.{link_added, piece_plays, plays};
 
 use crate::link::Link;
 use crate::playing::Play;
+use crate::saying::Saying;
 use gn_capture::Line;
 use gn_inbound::Inbound;
 use gn_rules::{Event, RouterCore};
@@ -57,8 +58,7 @@ impl<A: Allocator + Copy, C: RouterCore<A>> Play<A, C> {
             → HasPlayed self.old self.new (piece_plays self.old.settings self.old.past states i piece.now)) }
     {
         let Some(at) = self.place_of(i) else {
-            self.say_ended(i)?;
-            return Ok(());
+            return self.say(Saying::Ended(i));
         };
         let link = self.take_link(at);
         let kept = self.feed_link(i, link, piece)?;
@@ -80,8 +80,7 @@ impl<A: Allocator + Copy, C: RouterCore<A>> Play<A, C> {
             → HasPlayed self.old self.new (link_added states (joins self.old.settings self.old.past))) }
     {
         let link = self.join()?;
-        self.add_link(link)?;
-        Ok(())
+        self.add_link(link)
     }
 
     /// Makes a link that awaits its greeting.
@@ -90,8 +89,7 @@ impl<A: Allocator + Copy, C: RouterCore<A>> Play<A, C> {
             → HasPlayed self.old self.new (link_added states (awaits self.old.past))) }
     {
         let inbound = Inbound::new(self.alloc, Role::Accepting)?;
-        self.add_link(Link::Greeting(inbound))?;
-        Ok(())
+        self.add_link(Link::Greeting(inbound))
     }
 
     /// Plays one line of a capture. Its text is printed, and not written yet.

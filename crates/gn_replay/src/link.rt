@@ -5,7 +5,7 @@ use gn_rules::ConnId;
 use std::alloc::{Allocator, Global};
 
 /// What is kept of a link: where its bytes stand, and its connection once it has one.
-#[derive(Debug, Drop)]
+#[derive(Drop)]
 pub enum Link<A: Allocator = Global> {
     Ended,
     Greeting(Inbound<A>),

@@ -12,6 +12,7 @@ ghost use Rattle.gn_replay.specs.Playing.{HasAdmitted, HasLinked, after_playing}
 
 use crate::link::Link;
 use crate::playing::Play;
+use crate::saying::Saying;
 use gn_inbound::{Given, Inbound};
 use gn_rules::{ConnId, Event, RouterCore};
 use gn_shake::Role;
@@ -42,7 +43,7 @@ impl<A: Allocator + Copy, C: RouterCore<A>> Play<A, C> {
         ensures { OnOk result (self.new ≡ after_playing self.old
             (fault_plays self.old.settings self.old.past i connection fault)) }
     {
-        self.say_fault(i, fault)?;
+        self.say(Saying::Fault(i, fault))?;
         self.happen(Event::Close(connection))?;
         Ok(())
     }
@@ -133,7 +134,7 @@ impl<A: Allocator + Copy, C: RouterCore<A>> Play<A, C> {
         match inbound {
             Inbound::Greeting(_) => Ok(Link::Greeting(inbound)),
             Inbound::Refused => {
-                self.say_greeting_refused(i)?;
+                self.say(Saying::GreetingRefused(i))?;
                 Ok(Link::Ended)
             }
             Inbound::Open(_) => self.connect(i, inbound, given),
@@ -152,7 +153,7 @@ impl<A: Allocator + Copy, C: RouterCore<A>> Play<A, C> {
     {
         match link {
             Link::Ended => {
-                self.say_ended(i)?;
+                self.say(Saying::Ended(i))?;
                 Ok(Link::Ended)
             }
             Link::Greeting(inbound) => self.greet(i, inbound, piece),

@@ -8,9 +8,9 @@ ghost use Rattle.gn_replay.specs.Outcomes.{IsOutcome};
 ghost use Rattle.gn_replay.specs.Playing.{after_playing};
 
 use crate::form::Form;
-use crate::given::add;
 use crate::link::Link;
 use crate::outcome::Outcome;
+use crate::saying::Saying;
 use gn_rules::{Event, Refusal, Reply, RouterCore, Step};
 use gn_text::push_step;
 use std::alloc::{AllocError, Allocator};
@@ -54,14 +54,19 @@ impl<A: Allocator + Copy, C: RouterCore<A>> Play<A, C> {
           out = self.old.out ++ step_text (made event reply);
         }) }
     {
-        let step = Step {
+        let mut step = Step {
             actor: 0,
             event,
             reply,
         };
         push_step(&mut self.out, &step)?;
-        let outcome = Outcome::of_reply(&step.reply);
-        add(&mut self.core, step)?;
+        let outcome = Outcome {
+            connection: step.reply.connected(),
+            is_not_live: false,
+        };
+        let added = self.core.add(&mut step);
+        drop(step);
+        added?;
         Ok(outcome)
     }
 
@@ -71,8 +76,11 @@ impl<A: Allocator + Copy, C: RouterCore<A>> Play<A, C> {
         ensures after { OnOk result (self.new ≡ after_playing self.old (refuses self.old.past refusal)) }
     {
         self.refusals = self.refusals.saturating_add(1);
-        self.say_refusal(refusal)?;
-        Ok(Outcome::of_refusal::<A>(refusal))
+        self.say(Saying::Refused(refusal))?;
+        Ok(Outcome {
+            connection: None,
+            is_not_live: refusal == Refusal::NotLive,
+        })
     }
 
     /// Lets an event happen, and prints its answer.

@@ -104,27 +104,26 @@ impl<A: Allocator + Copy, C: RouterCore<A>> Play<A, C> {
         Ok(())
     }
 
-    /// Plays lines in order, and writes what is printed of them in blocks, after a beginning and with an ending, what is over
+    /// Plays lines in order, and writes what is printed of them in blocks, after what waits and with an ending, what is over
     /// at the end. Where memory runs out, what is printed of all lines before that is written too.
     fn write_lines<W: Sink>(
         &mut self,
         lines: Vec<(u64, Line<A>), A>,
-        begun: Block<A>,
+        block: &mut Block<A>,
         ending: &[u8],
         sink: &mut W,
     ) -> Result<(), ReplayFault>
         requires { IsNew self.old }
-        ensures ok { OnOk result (HasPrinted self.old.form begun
+        ensures ok { OnOk result (HasPrinted self.old.form block.old
             (capture_plays self.old.settings lines.items) ending.now
             self.new.past self.new.refusals (W.state sink.old).written (W.state sink.new).written) }
         ensures err { OnErr result (AppendsPart (W.state sink.old).written (W.state sink.new).written
-            (begun ++ said self.old.form (capture_plays self.old.settings lines.items) ++ ending.now)) }
+            (block.old ++ said self.old.form (capture_plays self.old.settings lines.items) ++ ending.now)) }
         ensures settings { OnOk result (self.new.settings ≡ self.old.settings) }
         ensures cause { IfErr result (λ fault. IsPlayFault fault (W.state sink.old) (W.state sink.new)) }
         ensures writes { OnOk result (NoWriteFailed (W.state sink.old) (W.state sink.new)) }
     {
-        let mut block = begun;
-        match self.pass_lines(lines, &mut block, sink) {
+        match self.pass_lines(lines, block, sink) {
             Ok(()) => {
                 block.add(ending)?;
                 block.write_rest(sink)?;
@@ -166,7 +165,8 @@ pub(crate) fn play_as<A: Allocator + Copy, C: FreshRouter<A> + Drop, W: Sink>(
         refusals: 0,
         form,
     };
-    play.write_lines(capture.lines, begun, ending, sink)?;
+    let mut block = begun;
+    play.write_lines(capture.lines, &mut block, ending, sink)?;
     Ok(Replayed {
         core: play.core,
         refusals: play.refusals,

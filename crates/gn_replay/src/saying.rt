@@ -1,12 +1,11 @@
 //! What a replay prints beside the steps of its router: nothing, where these are printed alone.
 
-ghost use Rattle.std.specs.Prelude.{◌≡◌, OnOk};
+ghost use Rattle.std.specs.Prelude.{◌≡◌, ◌++◌, OnOk};
 ghost use Rattle.gn_rules.specs.Statistics.{stats_of};
-ghost use Rattle.gn_text.specs.Links.{ended_text, frame_fault_text, greeting_refused_text};
-ghost use Rattle.gn_text.specs.Refusals.{refusal_text};
 ghost use Rattle.gn_text.specs.Statistics.{stats_text};
 ghost use Rattle.gn_replay.specs.Events.{prints};
 ghost use Rattle.gn_replay.specs.Playing.{after_playing};
+ghost use Rattle.gn_replay.specs.Sayings.{saying_text};
 
 use crate::form::Form;
 use crate::playing::Play;
@@ -15,43 +14,38 @@ use gn_text::{push_ended, push_frame_fault, push_greeting_refused, push_refusal,
 use gn_wire::FrameFault;
 use std::alloc::{AllocError, Allocator};
 
+/// A line that is no step's.
+#[derive(Clone, Copy)]
+pub(crate) enum Saying {
+    /// An event was refused.
+    Refused(Refusal),
+    /// Link i can't have what it was given.
+    Fault(u32, FrameFault),
+    /// The greeting of link i was refused.
+    GreetingRefused(u32),
+    /// Link i has ended.
+    Ended(u32),
+}
+
+/// Appends a line that is no step's.
+fn push_saying<A: Allocator>(out: &mut Vec<u8, A>, saying: Saying) -> Result<(), AllocError>
+    ensures { OnOk result (out.new.items ≡ out.old.items ++ saying_text saying) }
+{
+    match saying {
+        Saying::Refused(refusal) => push_refusal(out, refusal),
+        Saying::Fault(i, fault) => push_frame_fault(out, i, fault),
+        Saying::GreetingRefused(i) => push_greeting_refused(out, i),
+        Saying::Ended(i) => push_ended(out, i),
+    }
+}
+
 impl<A: Allocator + Copy, C: RouterCore<A>> Play<A, C> {
-    /// Says that an event was refused.
-    pub(crate) fn say_refusal(&mut self, refusal: Refusal) -> Result<(), AllocError>
-        ensures { OnOk result (self.new ≡ after_playing self.old (prints self.old.past (refusal_text refusal))) }
+    /// Says what is no step.
+    pub(crate) fn say(&mut self, saying: Saying) -> Result<(), AllocError>
+        ensures { OnOk result (self.new ≡ after_playing self.old (prints self.old.past (saying_text saying))) }
     {
         match self.form {
-            Form::Whole => push_refusal(&mut self.out, refusal),
-            Form::Steps => Ok(()),
-        }
-    }
-
-    /// Says that link i can't have what it was given.
-    pub(crate) fn say_fault(&mut self, i: u32, fault: FrameFault) -> Result<(), AllocError>
-        ensures { OnOk result (self.new ≡ after_playing self.old (prints self.old.past (frame_fault_text i fault))) }
-    {
-        match self.form {
-            Form::Whole => push_frame_fault(&mut self.out, i, fault),
-            Form::Steps => Ok(()),
-        }
-    }
-
-    /// Says that the greeting of link i was refused.
-    pub(crate) fn say_greeting_refused(&mut self, i: u32) -> Result<(), AllocError>
-        ensures { OnOk result (self.new ≡ after_playing self.old (prints self.old.past (greeting_refused_text i))) }
-    {
-        match self.form {
-            Form::Whole => push_greeting_refused(&mut self.out, i),
-            Form::Steps => Ok(()),
-        }
-    }
-
-    /// Says that link i has ended.
-    pub(crate) fn say_ended(&mut self, i: u32) -> Result<(), AllocError>
-        ensures { OnOk result (self.new ≡ after_playing self.old (prints self.old.past (ended_text i))) }
-    {
-        match self.form {
-            Form::Whole => push_ended(&mut self.out, i),
+            Form::Whole => push_saying(&mut self.out, saying),
             Form::Steps => Ok(()),
         }
     }

@@ -11,4 +11,4 @@ returns-clause-after g c =
     let count = c.saturating_add-self-inside.result in
     let more : count ≡ refused_more 1 play.refusals = search rules in
     rw (← c.self.view_is)
-    (refusal_counted v (record v { refusals = count }) c.say_refusal.new.self c.args.refusal (ap (λ (n : ℕ). record v { refusals = n }) more) c.in_ok-say_refusal.ensures)
+    (refusal_counted v (record v { refusals = count }) c.say.new.self c.args.refusal (ap (λ (n : ℕ). record v { refusals = n }) more) c.in_ok-say.ensures)

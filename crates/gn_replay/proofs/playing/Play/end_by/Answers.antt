@@ -9,5 +9,5 @@ use Rattle.gn_replay.proofs.playing.Play.end_by.Goals as goal
 pub returns : goal.returns
 returns g c =
     let v : Playing _ = c.args.self.now in
-    c.in_ok-happen.ensures.after ∙ ap (λ (w : Playing _). after_playing w (happens w.settings w.past (Close c.args.connection))) c.in_ok-say_fault.ensures
+    c.in_ok-happen.ensures.after ∙ ap (λ (w : Playing _). after_playing w (happens w.settings w.past (Close c.args.connection))) c.in_ok-say.ensures
     ∙ after_playing_both v (prints v.past (frame_fault_text c.args.i c.args.fault)) (happens v.settings v.past (Close c.args.connection))

@@ -7,11 +7,11 @@ returns-in-Greeting g c =
     greets_more c.args.self.now c.args.self.now c.args.i c.args.piece.now c.args.inbound c.in_ok-inbound.inbound given.opened given.descriptors.items given.fault
     c.in_ok-inbound.ensures c.in-Greeting.field-0 c.in-Greeting.is
 
-pub returns-in_ok-say_greeting_refused-in-Refused : goal.returns-in_ok-say_greeting_refused-in-Refused
-returns-in_ok-say_greeting_refused-in-Refused g c =
+pub returns-in_ok-say-in-Refused : goal.returns-in_ok-say-in-Refused
+returns-in_ok-say-in-Refused g c =
     let given = c.in_ok-inbound.given in
-    greets_refused c.args.self.now c.say_greeting_refused.new.self c.args.i c.args.piece.now c.args.inbound c.in_ok-inbound.inbound given.opened given.descriptors.items given.fault
-    c.in_ok-inbound.ensures c.in-Refused.is c.in_ok-say_greeting_refused-in-Refused.ensures
+    greets_refused c.args.self.now c.say.new.self c.args.i c.args.piece.now c.args.inbound c.in_ok-inbound.inbound given.opened given.descriptors.items given.fault
+    c.in_ok-inbound.ensures c.in-Refused.is c.in_ok-say-in-Refused.ensures
 
 pub returns-in-Open : goal.returns-in-Open
 returns-in-Open g c =

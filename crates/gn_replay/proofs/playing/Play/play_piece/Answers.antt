@@ -1,9 +1,10 @@
 use Rattle.gn_replay.proofs.LineLemmas.{played_piece, played_none}
+use Rattle.gn_replay.proofs.SayLemmas.{then_so}
 use Rattle.gn_replay.proofs.playing.Play.play_piece.Goals as goal
 
 pub returns-in_default : goal.returns-in_default
-returns-in_default g c = λ states are.
-    played_none c.args.self.now c.say_ended.new.self c.args.i c.args.piece.now states c.in_default.ensures.none c.in_ok-say_ended.ensures are
+returns-in_default g c =
+    then_so c.say.result (λ printed states are. played_none c.args.self.now c.say.new.self c.args.i c.args.piece.now states c.in_default.ensures.none printed are) c.say.ensures
 
 pub returns : goal.returns
 returns g c = λ states are.
