@@ -56,15 +56,6 @@ fn number_field<'a>(digits: &'a mut Buffer, number: Option<u32>) -> &'a [u8]
     }
 }
 
-/// A copy of some bytes.
-fn copied(alloc: Global, bytes: &[u8]) -> Result<Vec<u8>, AllocError>
-    ensures { IfOk result (λ copy. copy.items ≡ bytes.now) }
-{
-    let mut copy = Vec::new(alloc);
-    copy.extend_from_slice(bytes)?;
-    Ok(copy)
-}
-
 /// An ID in hex digits, where there is one.
 fn id_field<'a>(digits: &'a mut [u8; 32], id: Option<Guid>) -> &'a [u8]
     ensures { result.now ≡ id_field id }
@@ -125,7 +116,7 @@ fn push_row(rows: &mut RowWriter, shown: &Shown<'_>, row: &Row<'_>) -> Result<()
         ≡ rows.old ++ row_line (placed shown.now.moment) shown.now.step.now (row_seen row.now)) }
 {
     let packet = fields_of(row.packet);
-    let time = copied(shown.alloc, shown.moment.time)?;
+    let time = Vec::from_slice(shown.alloc, shown.moment.time)?;
     let mut index = Buffer::new();
     let mut actor = Buffer::new();
     let mut from = Buffer::new();
@@ -295,5 +286,5 @@ pub(crate) fn next_lines(
     };
     push_lines(rows, &shown)?;
     flight.follow(step)?;
-    copied(alloc, rows.text())
+    Vec::from_slice(alloc, rows.text())
 }

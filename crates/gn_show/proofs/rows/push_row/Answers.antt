@@ -10,7 +10,7 @@ pub returns : goal.returns
 returns c =
     subst (λ (fields : List (List ℕ)). OnOk c.push.result (c.push.new.self ≡ c.args.rows.now ++ row_text default_writer fields))
     (both_same (c.as_bytes.ensures.value ∙ c.format.ensures.text)
-    (both_same (c.as_slice.ensures.value ∙ c.in_ok-time.ensures)
+    (both_same (c.as_slice.ensures.value ∙ c.in_ok-time.ensures.items)
     (both_same (c.as_bytes-2.ensures.value ∙ c.format-2.ensures.text)
     (both_same (c.as_bytes-3.ensures.value ∙ c.event_name.ensures)
     (both_same (c.as_bytes-4.ensures.value ∙ c.counter_name.ensures ∙ ap counter_name c.of.ensures)
