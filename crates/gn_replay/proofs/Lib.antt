@@ -6,6 +6,7 @@ pub mod LineLemmas
 pub mod LinesLemmas
 pub mod LinkLemmas
 pub mod OneText
+pub mod PrintedLemmas
 pub mod ReplayLemmas
 pub mod RouteLemmas
 pub mod RunLemmas

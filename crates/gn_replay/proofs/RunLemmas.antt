@@ -198,7 +198,7 @@ pub run_left : (first last : Option (List ℕ)) (waiting all : List ℕ) → Wai
 run_left first last waiting all w = (waiting ++ w.0, w.1)
 
 -- a run without a beginning or an ending
-run_alone : {A : Type 0} (begun : List ℕ) (played : Played A) (ending : List ℕ) (steps : List (Step A)) (count : ℕ) (first last : Option (List ℕ)) → begun ≡ [] → ending ≡ []
+pub run_alone : {A : Type 0} (begun : List ℕ) (played : Played A) (ending : List ℕ) (steps : List (Step A)) (count : ℕ) (first last : Option (List ℕ)) → begun ≡ [] → ending ≡ []
     → HasPrinted Whole begun played ending steps count first last → HasRun played steps count first last
 run_alone begun played ending steps count first last none nothing p =
     record { past = p.past; refusals = p.refusals; text = subst (λ (all : List ℕ). Appends first last all) (alone begun played.text ending none nothing) p.text }

@@ -14,4 +14,5 @@ pub mod Runs
 -- Words of the proofs.
 pub mod Judgements
 pub mod Outcomes
+pub mod Printed
 pub mod Sayings

@@ -5,10 +5,12 @@ ghost use Rattle.gn_replay.specs.Faults.{IsAnswerOn, IsReplayFault, input_of};
 ghost use Rattle.gn_io.specs.Input.{input_limit};
 ghost use Rattle.gn_io.specs.Streams.{NoWriteFailed, streams, text_between};
 ghost use Rattle.gn_capture.specs.Captures.{capture_of};
+ghost use Rattle.gn_replay.specs.Printed.{AppendsPrinted, HasPrintedStopped};
 ghost use Rattle.gn_replay.specs.Replays.{AppendsReplay, HasStopped, IsCounted};
 
 use crate::fault::ReplayFault;
-use crate::run::{Replayed, play};
+use crate::form::Form;
+use crate::run::{Replayed, play_as};
 use gn_capture::read_capture;
 use gn_io::{Sink, Source, read_input};
 use gn_rules::{FreshRouter, RouterCore};
@@ -24,7 +26,7 @@ pub struct Exit {
 }
 
 /// The counts of what was played.
-pub(crate) fn exit_of<A: Allocator + Copy, C: RouterCore<A>>(replayed: &Replayed<C>) -> Exit
+fn exit_of<A: Allocator + Copy, C: RouterCore<A>>(replayed: &Replayed<C>) -> Exit
     ensures steps { result.steps ≡ length (C.steps replayed.now.core) }
     ensures refusals { result.refusals ≡ replayed.now.refusals }
 {
@@ -38,22 +40,45 @@ pub(crate) fn exit_of<A: Allocator + Copy, C: RouterCore<A>>(replayed: &Replayed
 fn replay_text<A: Allocator + Copy, C: FreshRouter<A> + Drop, W: Sink>(
     alloc: A,
     text: Vec<u8, A>,
+    form: Form,
     sink: &mut W,
 ) -> Result<Exit, ReplayFault>
     requires { length text.items ≤ input_limit }
     ensures valid { OnOk result (IsOk (capture_of {A = A} text.items)) }
-    ensures written { OnOk result (AppendsReplay A text.items (W.state sink.old).written (W.state sink.new).written) }
+    ensures written { OnOk result (AppendsPrinted A form text.items (W.state sink.old).written
+        (W.state sink.new).written) }
     ensures counted { IfOk result (λ exit. IsCounted A text.items exit) }
     ensures writes { OnOk result (NoWriteFailed (W.state sink.old) (W.state sink.new)) }
-    ensures stopped { IfErr result (λ fault. HasStopped A fault (Some text.items)
+    ensures stopped { IfErr result (λ fault. HasPrintedStopped A form fault (Some text.items)
         (W.state sink.old).written (W.state sink.new).written) }
     ensures fault { IfErr result (λ fault. IsReplayFault fault (capture_of {A = A})
         (streams (input_of text.items) (input_of text.items) (W.state sink.old) (W.state sink.new))) }
 {
     let capture = read_capture(alloc, &text)?;
     drop(text);
-    let replayed = play::<A, C, W>(alloc, capture, sink)?;
+    let replayed = play_as::<A, C, W>(alloc, capture, form, sink)?;
     Ok(exit_of::<A, C>(&replayed))
+}
+
+/// Reads a capture whole, plays its lines on a new router, and writes what is printed of them.
+pub(crate) fn replay_as<A: Allocator + Copy, C: FreshRouter<A> + Drop, S: Source, W: Sink>(
+    alloc: A,
+    form: Form,
+    source: &mut S,
+    sink: &mut W,
+) -> Result<Exit, ReplayFault>
+    ensures answer { IsAnswerOn (capture_of {A = A})
+        (streams (S.state source.old) (S.state source.new) (W.state sink.old) (W.state sink.new)) result }
+    ensures written { OnOk result (IfSome (text_between (S.state source.old) (S.state source.new)) (λ text.
+        AppendsPrinted A form text (W.state sink.old).written (W.state sink.new).written)) }
+    ensures counted { IfOk result (λ exit.
+        IfSome (text_between (S.state source.old) (S.state source.new)) (λ text. IsCounted A text exit)) }
+    ensures stopped { IfErr result (λ fault.
+        HasPrintedStopped A form fault (text_between (S.state source.old) (S.state source.new))
+        (W.state sink.old).written (W.state sink.new).written) }
+{
+    let text = read_input(alloc, source)?;
+    replay_text::<A, C, W>(alloc, text, form, sink)
 }
 
 /// Reads a capture whole, plays its lines on a new router, and writes what they print in blocks, as `play` does. An
@@ -73,6 +98,5 @@ pub fn replay<A: Allocator + Copy, C: FreshRouter<A> + Drop, S: Source, W: Sink>
     ensures stopped { IfErr result (λ fault. HasStopped A fault (text_between (S.state source.old) (S.state source.new))
         (W.state sink.old).written (W.state sink.new).written) }
 {
-    let text = read_input(alloc, source)?;
-    replay_text::<A, C, W>(alloc, text, sink)
+    replay_as::<A, C, S, W>(alloc, Form::Whole, source, sink)
 }

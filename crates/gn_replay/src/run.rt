@@ -6,6 +6,7 @@ ghost use Rattle.gn_io.specs.Streams.{NoWriteFailed};
 ghost use Rattle.gn_replay.specs.Links.{AreLinks, LinkState};
 ghost use Rattle.gn_replay.specs.ReplayText.{capture_plays, plays};
 ghost use Rattle.gn_replay.specs.Playing.{said};
+ghost use Rattle.gn_replay.specs.Printed.{begun_of, ending_of};
 ghost use Rattle.gn_replay.specs.Runs.{HasPassed, HasPrinted, HasRun, HasWritten, IsNew, IsPlayFault};
 
 use crate::fault::ReplayFault;
@@ -139,24 +140,25 @@ impl<A: Allocator + Copy, C: RouterCore<A>> Play<A, C> {
 }
 
 /// Makes a router as the capture's first lines say, plays its lines on it, each of which is gone then, and writes what is
-/// printed of them in blocks, after a beginning and with an ending.
+/// printed of them in blocks, with what stands before and after them.
 pub(crate) fn play_as<A: Allocator + Copy, C: FreshRouter<A> + Drop, W: Sink>(
     alloc: A,
     capture: Capture<A>,
     form: Form,
-    begun: Block<A>,
-    ending: &[u8],
     sink: &mut W,
 ) -> Result<Replayed<C>, ReplayFault>
     ensures settings { IfOk result (λ replayed. C.settings replayed.core ≡ capture.config) }
-    ensures played { IfOk result (λ replayed. HasPrinted form begun (capture_plays capture.config capture.lines.items)
-        ending.now (reverse (C.steps replayed.core)) replayed.refusals
+    ensures played { IfOk result (λ replayed. HasPrinted form (begun_of form capture.config)
+        (capture_plays capture.config capture.lines.items)
+        (ending_of form) (reverse (C.steps replayed.core)) replayed.refusals
         (W.state sink.old).written (W.state sink.new).written) }
     ensures err { OnErr result (AppendsPart (W.state sink.old).written (W.state sink.new).written
-        (begun ++ said form (capture_plays capture.config capture.lines.items) ++ ending.now)) }
+        (begun_of form capture.config ++ said form (capture_plays capture.config capture.lines.items)
+        ++ ending_of form)) }
     ensures writes { OnOk result (NoWriteFailed (W.state sink.old) (W.state sink.new)) }
     ensures cause { IfErr result (λ fault. IsPlayFault fault (W.state sink.old) (W.state sink.new)) }
 {
+    let mut block = form.beginning(alloc, &capture.config)?;
     let mut play = Play {
         alloc,
         core: C::make(alloc, &capture.config)?,
@@ -165,8 +167,7 @@ pub(crate) fn play_as<A: Allocator + Copy, C: FreshRouter<A> + Drop, W: Sink>(
         refusals: 0,
         form,
     };
-    let mut block = begun;
-    play.write_lines(capture.lines, &mut block, ending, sink)?;
+    play.write_lines(capture.lines, &mut block, form.ending(), sink)?;
     Ok(Replayed {
         core: play.core,
         refusals: play.refusals,
@@ -189,5 +190,5 @@ pub fn play<A: Allocator + Copy, C: FreshRouter<A> + Drop, W: Sink>(
     ensures writes { OnOk result (NoWriteFailed (W.state sink.old) (W.state sink.new)) }
     ensures cause { IfErr result (λ fault. IsPlayFault fault (W.state sink.old) (W.state sink.new)) }
 {
-    play_as::<A, C, W>(alloc, capture, Form::Whole, Block::new(alloc), b"", sink)
+    play_as::<A, C, W>(alloc, capture, Form::Whole, sink)
 }
