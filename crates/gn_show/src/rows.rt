@@ -116,6 +116,7 @@ fn push_row(rows: &mut RowWriter, shown: &Shown<'_>, row: &Row<'_>) -> Result<()
         ≡ rows.old ++ row_line (placed shown.now.moment) shown.now.step.now (row_seen row.now)) }
 {
     let packet = fields_of(row.packet);
+    // References in an array have one lifetime, and the time has another.
     let time = Vec::from_slice(shown.alloc, shown.moment.time)?;
     let mut index = Buffer::new();
     let mut actor = Buffer::new();

@@ -7,7 +7,7 @@ ghost use Rattle.gn_rules.specs.declared.reply.Reply.TheVariants.{Routed};
 ghost use Rattle.gn_show.specs.Kept.{seen};
 ghost use Rattle.gn_show.specs.Pieces.{Puts};
 ghost use Rattle.gn_show.specs.Tokens.{tokens_of};
-ghost use Rattle.gn_show.specs.Values.{after_kind, before_kind, descriptor_data, event_as, event_data, kind_data, number_data, reply_as, reply_data, route_data, sends_data, step_data};
+ghost use Rattle.gn_show.specs.Values.{after_kind, before_kind, descriptor_data, event_as, kind_data, number_data, reply_as, route_data, sends_data, step_data};
 
 use crate::descriptor_json::{put_descriptor, put_sends};
 use crate::flight::Subject;
@@ -93,7 +93,7 @@ fn put_route(tokens: &mut Tokens, kind: &str, subject: Option<Subject<'_>>, tick
 }
 
 /// An event of this name that speaks of this packet.
-fn put_event_as(tokens: &mut Tokens, kind: &str, subject: Option<Subject<'_>>, event: &Event)
+fn put_event(tokens: &mut Tokens, kind: &str, subject: Option<Subject<'_>>, event: &Event)
     ensures { Puts tokens.old tokens.new (tokens_of (event_as kind.now (seen subject.entry) event.now)) }
 {
     match event {
@@ -104,13 +104,6 @@ fn put_event_as(tokens: &mut Tokens, kind: &str, subject: Option<Subject<'_>>, e
         Event::Take(c) => put_numbered(tokens, "connection", *c, kind),
         Event::Originate(descriptor) => put_whole(tokens, descriptor, kind),
     }
-}
-
-/// An event that speaks of this packet.
-fn put_event(tokens: &mut Tokens, subject: Option<Subject<'_>>, event: &Event)
-    ensures { Puts tokens.old tokens.new (tokens_of (event_data (seen subject.entry) event.now)) }
-{
-    put_event_as(tokens, event_name(event), subject, event)
 }
 
 /// A reply Routed, with its sends.
@@ -148,7 +141,7 @@ fn put_sent(tokens: &mut Tokens, kind: &str, sends: &[Sending])
 }
 
 /// A reply whose counter has this name.
-fn put_reply_as(tokens: &mut Tokens, kind: &str, reply: &Reply)
+fn put_reply(tokens: &mut Tokens, kind: &str, reply: &Reply)
     ensures { Puts tokens.old tokens.new (tokens_of (reply_as kind.now reply.now)) }
 {
     match reply {
@@ -163,13 +156,6 @@ fn put_reply_as(tokens: &mut Tokens, kind: &str, reply: &Reply)
     }
 }
 
-/// A reply.
-fn put_reply(tokens: &mut Tokens, reply: &Reply)
-    ensures { Puts tokens.old tokens.new (tokens_of (reply_data reply.now)) }
-{
-    put_reply_as(tokens, counter_name(Counter::of(reply)), reply)
-}
-
 /// Writes a step with its index, counted from 0, whose event speaks of this packet.
 pub(crate) fn put_step(tokens: &mut Tokens, subject: Option<Subject<'_>>, index: u32, step: &Step)
     ensures { Puts tokens.old tokens.new (tokens_of (step_data (seen subject.entry) index step.now)) }
@@ -177,9 +163,9 @@ pub(crate) fn put_step(tokens: &mut Tokens, subject: Option<Subject<'_>>, index:
     tokens.begin_object();
     tokens.put_number("actor", step.actor);
     tokens.put_name("event");
-    put_event(tokens, subject, &step.event);
+    put_event(tokens, event_name(&step.event), subject, &step.event);
     tokens.put_name("reply");
-    put_reply(tokens, &step.reply);
+    put_reply(tokens, counter_name(Counter::of(&step.reply)), &step.reply);
     tokens.put_number("step", index);
     tokens.end_object();
 }
