@@ -8,7 +8,6 @@ use crate::judged::verdict;
 use crate::judgement::{Answer, Judgement, WrongStep};
 use gn_rules::Legality;
 use gn_text::{push_refusal, push_reply};
-use itoa::Buffer;
 use std::alloc::{AllocError, Allocator};
 
 /// Appends what the rules answer, or `refused` and why. An `Err` is out of memory, and may leave a part of it.
@@ -25,17 +24,16 @@ fn write_answer<A: Allocator>(out: &mut Vec<u8, A>, rules: &Answer<A>) -> Result
 }
 
 /// Appends the two lines that explain a wrong step. An `Err` is out of memory, and may leave a part of them.
-fn write_explanation<A: Allocator>(
+fn write_explanation<A: Allocator + Copy>(
+    alloc: A,
     out: &mut Vec<u8, A>,
     wrong: &WrongStep<A>,
 ) -> Result<(), AllocError>
     ensures { OnOk result (out.new.items ≡ out.old.items
         ++ explanation_text (wrong.now.number, wrong.now.line.items) wrong.now.rules) }
 {
-    let mut digits = Buffer::new();
-    out.extend_from_slice(b"line ")?;
-    out.extend_from_slice(digits.format(wrong.number).as_bytes())?;
-    out.extend_from_slice(b": ")?;
+    let head = format!(in alloc; "line {}: ", wrong.number)?;
+    out.extend_from_slice(head.as_bytes())?;
     out.extend_from_slice(&wrong.line)?;
     out.extend_from_slice(b"\nrules: ")?;
     write_answer(out, &wrong.rules)
@@ -55,7 +53,7 @@ pub(crate) fn explained_lines<A: Allocator + Copy>(
     match judgement {
         Judgement::Legal => Ok((legality, lines)),
         Judgement::WrongAt(wrong) => {
-            write_explanation(&mut lines, wrong)?;
+            write_explanation(alloc, &mut lines, wrong)?;
             Ok((legality, lines))
         }
     }

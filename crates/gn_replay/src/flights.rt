@@ -32,19 +32,6 @@ impl<A: Allocator + Copy, C: RouterCore<A>> Play<A, C> {
         }
     }
 
-    /// Adds a ticket to others, where something is in flight under it and the history isn't full.
-    fn add_flight(&self, ticket: Ticket, tickets: &mut Vec<Ticket, A>) -> Result<(), AllocError>
-        requires { (length self.now.past == self.now.settings.numbers.steps) ≡ false }
-        ensures { OnOk result (tickets.new.items
-            ≡ tickets.old.items ++ (if is_some (in_flight self.now.past ticket) then ticket ∷ [] else [])) }
-    {
-        if !self.has_flight(ticket)? {
-            return Ok(());
-        }
-        tickets.push(ticket)?;
-        Ok(())
-    }
-
     /// The tickets in flight, in order, where the history isn't full. They are looked for from the newest on, as older ones were
     /// routed before.
     fn tickets_in_flight(&self) -> Result<Vec<Ticket, A>, AllocError>
@@ -57,7 +44,9 @@ impl<A: Allocator + Copy, C: RouterCore<A>> Play<A, C> {
         let mut next = self.core.stats().get(Counter::Admitted);
         while tickets.len() < count && 0 < next {
             next -= 1;
-            self.add_flight(next, &mut tickets)?;
+            if self.has_flight(next)? {
+                tickets.push(next)?;
+            }
         }
         tickets.reverse();
         Ok(tickets)

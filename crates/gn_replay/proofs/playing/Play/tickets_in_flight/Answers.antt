@@ -1,4 +1,4 @@
-use Rattle.std.proofs.Common.{◌≡◌, ◌-◌, ◌∙◌, ap, arith, length, reverse, subst}
+use Rattle.std.proofs.Common.{◌≡◌, ◌-◌, ◌++◌, ◌∷◌, ◌∙◌, [], Bool, ap, append-nil, arith, cond, length, reverse, subst, sym}
 use Rattle.gn_rules.specs.Answer.{IsLegal}
 use Rattle.gn_rules.specs.Flight.{flying}
 use Rattle.gn_rules.specs.declared.statistics.Counter.TheVariants.{Admitted}
@@ -18,8 +18,19 @@ pub loop-next-preserved : goal.loop-next-preserved
 loop-next-preserved g c =
     let v = c.args.self.now in
     let legal : IsLegal v.settings v.past = subst (λ (v : Playing _). IsLegal v.settings v.past) c.self.view_is c.is_legal.ensures in
-    finding_more v.settings v.past c.loop-next.next (c.loop-next.next - 1) c.loop-next.tickets.items c.add_flight.new.tickets.items legal c.loop-next.invariant
-    (omega arith) c.in_ok-add_flight.ensures
+    let t = c.loop-next.next - 1 in
+    let found = c.loop-next.tickets.items in
+    finding_more v.settings v.past c.loop-next.next t found found legal c.loop-next.invariant (omega arith)
+    (subst (λ (b : Bool). found ≡ found ++ cond b (t ∷ []) []) (sym c.if-branch.false ∙ c.in_ok-has_flight.ensures) (sym (append-nil found)))
+
+pub loop-next-preserved-in-Continue-branch-2 : goal.loop-next-preserved-in-Continue-branch-2
+loop-next-preserved-in-Continue-branch-2 g c =
+    let v = c.args.self.now in
+    let legal : IsLegal v.settings v.past = subst (λ (v : Playing _). IsLegal v.settings v.past) c.self.view_is c.is_legal.ensures in
+    let t = c.loop-next.next - 1 in
+    let found = c.loop-next.tickets.items in
+    finding_more v.settings v.past c.loop-next.next t found c.push.new.self.items legal c.loop-next.invariant (omega arith)
+    (subst (λ (b : Bool). c.push.new.self.items ≡ found ++ cond b (t ∷ []) []) (sym c.if-branch.true ∙ c.in_ok-has_flight.ensures) c.in_ok-push.ensures.items)
 
 pub returns : goal.returns
 returns g c =
