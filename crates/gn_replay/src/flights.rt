@@ -56,7 +56,7 @@ impl<A: Allocator + Copy, C: RouterCore<A>> Play<A, C> {
     fn any_tickets(&self) -> Result<Vec<Ticket, A>, AllocError>
         ensures { IfOk result (λ tickets. length tickets.items ≡ length (flying self.now.past)) }
     {
-        Ok(vec![in self.alloc; 0; self.core.flights() as usize]?)
+        vec![in self.alloc; 0; self.core.flights() as usize]
     }
 
     /// Tickets whose routing is that of those in flight. A full history refuses each alike, whichever it is.

@@ -44,8 +44,7 @@ impl<A: Allocator + Copy, C: RouterCore<A>> Play<A, C> {
             (fault_plays self.old.settings self.old.past i connection fault)) }
     {
         self.say(Saying::Fault(i, fault))?;
-        self.happen(Event::Close(connection))?;
-        Ok(())
+        self.play_event(Event::Close(connection))
     }
 
     /// Admits what a piece of a joined link gave, and ends the link at a fault.

@@ -10,10 +10,10 @@ ghost use Rattle.gn_replay.specs.Replays.{AppendsReplay, HasStopped, IsCounted};
 
 use crate::fault::ReplayFault;
 use crate::form::Form;
-use crate::run::{Replayed, play_as};
+use crate::run::play_as;
 use gn_capture::read_capture;
 use gn_io::{Sink, Source, read_input};
-use gn_rules::{FreshRouter, RouterCore};
+use gn_rules::FreshRouter;
 use std::alloc::Allocator;
 
 /// What a replay came to, counted.
@@ -23,17 +23,6 @@ pub struct Exit {
     pub steps: u32,
     /// How many events it refused, up to the last u64.
     pub refusals: u64,
-}
-
-/// The counts of what was played.
-fn exit_of<A: Allocator + Copy, C: RouterCore<A>>(replayed: &Replayed<C>) -> Exit
-    ensures steps { result.steps ≡ length (C.steps replayed.now.core) }
-    ensures refusals { result.refusals ≡ replayed.now.refusals }
-{
-    Exit {
-        steps: replayed.core.step_count(),
-        refusals: replayed.refusals,
-    }
 }
 
 /// Replays a capture that is read whole. Its text is gone before the first line is played.
@@ -57,7 +46,10 @@ fn replay_text<A: Allocator + Copy, C: FreshRouter<A> + Drop, W: Sink>(
     let capture = read_capture(alloc, &text)?;
     drop(text);
     let replayed = play_as::<A, C, W>(alloc, capture, form, sink)?;
-    Ok(exit_of::<A, C>(&replayed))
+    Ok(Exit {
+        steps: replayed.core.step_count(),
+        refusals: replayed.refusals,
+    })
 }
 
 /// Reads a capture whole, plays its lines on a new router, and writes what is printed of them.

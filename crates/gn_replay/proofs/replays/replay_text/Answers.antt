@@ -1,3 +1,4 @@
+use Rattle.std.proofs.Common.{refl}
 use Rattle.gn_replay.proofs.PrintedLemmas.{printed_stopped, printed_written}
 use Rattle.gn_replay.proofs.ReplayLemmas.{counted}
 use Rattle.gn_replay.proofs.replays.replay_text.Goals as goal
@@ -16,5 +17,4 @@ returns-clause-written g c =
 pub returns-clause-counted : goal.returns-clause-counted
 returns-clause-counted g c =
     let read = rw c.deref.ensures.value at c.in_ok-capture.ensures.read in
-    counted c.args.text.items c.in_ok-capture.capture c.exit_of.result _ _ read c.in_ok-replayed.ensures.played.past c.in_ok-replayed.ensures.played.refusals
-    c.exit_of.ensures.steps c.exit_of.ensures.refusals
+    counted c.args.text.items c.in_ok-capture.capture _ _ _ read c.in_ok-replayed.ensures.played.past c.in_ok-replayed.ensures.played.refusals c.step_count.ensures refl
