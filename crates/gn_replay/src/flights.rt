@@ -44,9 +44,11 @@ impl<A: Allocator + Copy, C: RouterCore<A>> Play<A, C> {
         let mut next = self.core.stats().get(Counter::Admitted);
         while tickets.len() < count && 0 < next {
             next -= 1;
-            if self.has_flight(next)? {
-                tickets.push(next)?;
+            let flies = self.has_flight(next)?;
+            if !flies {
+                continue;
             }
+            tickets.push(next)?;
         }
         tickets.reverse();
         Ok(tickets)

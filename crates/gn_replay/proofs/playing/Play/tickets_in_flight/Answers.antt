@@ -14,23 +14,23 @@ loop-next-init g c =
     rw (← c.self.view_is)
     (finding_start (g.C.RouterCore.settings c.self.inside.core) past _ _ c.is_legal.ensures (c.get-next.ensures ∙ ap (count_in Admitted) c.stats.ensures ∙ admitted_counted past) c.new-tickets.ensures.items)
 
+pub loop-next-preserved-then-not-flies : goal.loop-next-preserved-then-not-flies
+loop-next-preserved-then-not-flies g c =
+    let v = c.args.self.now in
+    let legal : IsLegal v.settings v.past = subst (λ (v : Playing _). IsLegal v.settings v.past) c.self.view_is c.is_legal.ensures in
+    let t = c.loop-next.next - 1 in
+    let found = c.loop-next.tickets.items in
+    finding_more v.settings v.past c.loop-next.next t found found legal c.loop-next.invariant (omega arith)
+    (subst (λ (b : Bool). found ≡ found ++ cond b (t ∷ []) []) (sym c.if-not-flies.true ∙ c.in_ok-flies.ensures) (sym (append-nil found)))
+
 pub loop-next-preserved : goal.loop-next-preserved
 loop-next-preserved g c =
     let v = c.args.self.now in
     let legal : IsLegal v.settings v.past = subst (λ (v : Playing _). IsLegal v.settings v.past) c.self.view_is c.is_legal.ensures in
     let t = c.loop-next.next - 1 in
     let found = c.loop-next.tickets.items in
-    finding_more v.settings v.past c.loop-next.next t found found legal c.loop-next.invariant (omega arith)
-    (subst (λ (b : Bool). found ≡ found ++ cond b (t ∷ []) []) (sym c.if-branch.false ∙ c.in_ok-has_flight.ensures) (sym (append-nil found)))
-
-pub loop-next-preserved-in-Continue-branch-2 : goal.loop-next-preserved-in-Continue-branch-2
-loop-next-preserved-in-Continue-branch-2 g c =
-    let v = c.args.self.now in
-    let legal : IsLegal v.settings v.past = subst (λ (v : Playing _). IsLegal v.settings v.past) c.self.view_is c.is_legal.ensures in
-    let t = c.loop-next.next - 1 in
-    let found = c.loop-next.tickets.items in
     finding_more v.settings v.past c.loop-next.next t found c.push.new.self.items legal c.loop-next.invariant (omega arith)
-    (subst (λ (b : Bool). c.push.new.self.items ≡ found ++ cond b (t ∷ []) []) (sym c.if-branch.true ∙ c.in_ok-has_flight.ensures) c.in_ok-push.ensures.items)
+    (subst (λ (b : Bool). c.push.new.self.items ≡ found ++ cond b (t ∷ []) []) (sym c.if-not-flies.false ∙ c.in_ok-flies.ensures) c.in_ok-push.ensures.items)
 
 pub returns : goal.returns
 returns g c =
