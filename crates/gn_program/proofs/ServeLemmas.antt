@@ -1,5 +1,5 @@
 -- What a serve answers, from what the run answered.
-use Rattle.std.proofs.Common.{◌≡◌, ◌∙◌, ◌⊎◌, ◌+◌, ℕ, Bool, false, true, List, [], length, IfErr, OnOk, Option, None, Some, Result, Ok, Err, ap, inl, inr, refl, sym, subst, is_some, not, ◌&&◌}
+use Rattle.std.proofs.Common.{◌≡◌, ◌∙◌, ◌⊎◌, ◌+◌, ℕ, Bool, false, true, List, [], length, IfErr, OnOk, Option, None, Some, Result, Ok, Err, ap, inl, inr, refl, sym, subst, is_some, not, ◌&&◌, ◌||◌}
 use Rattle.std.specs.Prelude.{IfSome}
 use Rattle.std.specs.declared.alloc.Global.{Global}
 use Rattle.std.specs.declared.net.socket_addr.SocketAddr.{SocketAddr}
@@ -22,7 +22,8 @@ use Rattle.gn_load.specs.declared.taken.Taken.{Taken}
 use Rattle.gn_start.specs.Faults.{IsArrivingFault}
 use Rattle.gn_start.specs.declared.fault.RunFault.{RunFault}
 use Rattle.gn_start.specs.declared.fault.RunFault.TheVariants.{Listen, NoMemory}
-use Rattle.gn_program.specs.Serves.{AppendsAsked, AppendsAskedPart, IsBeside, IsRestBeside, IsServeAnswer, IsServing, IsWritten}
+use Rattle.gn_program.specs.Serves.{AppendsAsked, AppendsAskedPart, IsBeside, IsServeAnswer, IsServing, IsWritten}
+use Rattle.gn_program.specs.Runs.{IsWhole}
 use Rattle.gn_program.specs.Served.{served_by}
 use Rattle.gn_program.specs.Limits.{calls_again, goes_on}
 use Rattle.gn_program.specs.Peers.{AreAt, peer_at}
@@ -58,17 +59,6 @@ module _ (J : SinkState → SinkState → Type 0) where
     subst (λ old. J old (with_all old new text)) (sym e₀) (subst (λ new. J begun (with_all begun new text)) e₂ (subst (λ first. J first (with_all begun mid text)) e₁ ran)),
   )
 
-  -- and comments beside it
-  pub rest_beside : (old new : SinkState) (comments : List ℕ) → HasWrittenBoth old new comments
-      → (text : List ℕ) × HasWrittenRest old (without_comments old new comments) text × J old (with_all old (without_comments old new comments) text)
-      → (all : SinkState) × IsRestBeside old all new × J old all
-  rest_beside old new comments both ran =
-      let bare = without_comments old new comments in (
-        with_all old bare ran.0,
-        record { bare = bare; text = ran.0; comments = comments; rest = ran.1; whole = refl; beside = refl; both = both },
-        ran.2,
-      )
-
   -- what holds of a sink without its comments, which a text was written to
   pub as_commented : (begun old first mid new : SinkState) (text : List ℕ) → old ≡ begun → first ≡ begun → mid ≡ new → HasWrittenBoth begun mid text → J first (without_comments begun mid text)
       → (text : List ℕ) × HasWrittenBoth old new text × J old (without_comments old new text)
@@ -77,12 +67,6 @@ module _ (J : SinkState → SinkState → Type 0) where
     subst (λ old. HasWrittenBoth old new text) (sym e₀) (subst (λ new. HasWrittenBoth begun new text) e₂ both),
     subst (λ old. J old (without_comments old new text)) (sym e₀) (subst (λ new. J begun (without_comments begun new text)) e₂ (subst (λ first. J first (without_comments begun mid text)) e₁ ran)),
   )
-
-  -- it holds of the sink beside it
-  pub is_beside : (has : Bool) (old new : SinkState) → has ≡ true → (text : List ℕ) × HasWrittenBoth old new text × J old (without_comments old new text)
-      → (bare : SinkState) × IsBeside has old bare new × J old bare
-  is_beside true old new is ran = (without_comments old new ran.0, (ran.0, refl, ran.1), ran.2)
-  is_beside false old new is ran = cc
 
 -- a serve that goes on with a history is one of any number of callers
 none_of : (resumes : Bool) (accept : Option ℕ) → (resumes && not (is_some accept)) ≡ true → accept ≡ None
@@ -94,28 +78,40 @@ pub goes_on_any : (serving : AskedServe) → goes_on serving ≡ true → servin
 goes_on_any serving is = none_of serving.resumes serving.accept is
 
 module _ (J : Bool → Option ℕ → SinkState → Type 0) where
-  -- what holds of a router that goes on with a history
-  pub went_on : (goes has : Bool) (accept : Option ℕ) (old new : SinkState) → goes ≡ true → accept ≡ None → (all : SinkState) × IsRestBeside old all new × J true None all
-      → (all : SinkState) × IsWritten goes has old all new × J goes accept all
-  went_on true has None old new is none ran = ran
-  went_on true has (Some accept) old new is none ran = absurd (cc none)
-  went_on false has accept old new is none ran = absurd (cc is)
+  -- what holds of a router that goes on with a history, without comments
+  pub went_on : (goes : Bool) (accept : Option ℕ) (old new : SinkState) → goes ≡ true → accept ≡ None
+      → (text : List ℕ) × HasWrittenRest old new text × J true None (with_all old new text)
+      → (all : SinkState) × IsWhole goes old all new × J goes accept all
+  went_on true None old new is none ran = (with_all old new ran.0, (ran.0, ran.1, refl), ran.2)
+  went_on true (Some accept) old new is none ran = absurd (cc none)
+  went_on false accept old new is none ran = absurd (cc is)
 
   -- and of one that doesn't
-  pub went_anew : (goes has : Bool) (accept : Option ℕ) (old new : SinkState) → goes ≡ false → (bare : SinkState) × IsBeside has old bare new × J false accept bare
-      → (all : SinkState) × IsWritten goes has old all new × J goes accept all
-  went_anew false has accept old new is ran = ran
-  went_anew true has accept old new is ran = absurd (cc is)
+  pub went_anew : (goes : Bool) (accept : Option ℕ) (old new : SinkState) → goes ≡ false → J false accept new
+      → (all : SinkState) × IsWhole goes old all new × J goes accept all
+  went_anew false accept old new is ran = (new, refl, ran)
+  went_anew true accept old new is ran = absurd (cc is)
 
-module _ (J : SinkState → SinkState → Type 0) where
-  -- what holds of a sink to which a rest was written with comments
-  pub rest_commented : (begun old first last new : SinkState) (comments : List ℕ) → old ≡ begun → first ≡ begun → last ≡ without_comments begun new comments → HasWrittenBoth begun new comments
-      → (text : List ℕ) × HasWrittenRest first last text × J first (with_all first last text)
-      → (all : SinkState) × IsRestBeside old all new × J old all
-  rest_commented begun old first last new comments e₀ e₁ e₂ both ran =
-      let at_first = subst (λ f. (text : List ℕ) × HasWrittenRest f last text × J f (with_all f last text)) e₁ ran in
-      let at_last = subst (λ l. (text : List ℕ) × HasWrittenRest begun l text × J begun (with_all begun l text)) e₂ at_first in
-      subst (λ o. (all : SinkState) × IsRestBeside o all new × J o all) (sym e₀) (rest_beside J begun new comments both at_last)
+module _ (J : SinkState → Type 0) where
+  -- what holds of a router whose history was written with comments
+  pub with_comments : (goes has : Bool) (old new : SinkState) → (goes || has) ≡ true
+      → (text : List ℕ) × HasWrittenBoth old new text × ((all : SinkState) × IsWhole goes old all (without_comments old new text) × J all)
+      → (all : SinkState) × IsWritten goes has old all new × J all
+  with_comments true has old new is ran =
+      let whole = ran.2.1 in (
+        ran.2.0,
+        record { bare = without_comments old new ran.0; text = whole.0; comments = ran.0; rest = whole.1; whole = whole.2; beside = refl; both = ran.1 },
+        ran.2.2,
+      )
+  with_comments false true old new is ran = (ran.2.0, (ran.0, ran.2.1, ran.1), ran.2.2)
+  with_comments false false old new is ran = cc
+
+  -- and of one that has none
+  pub with_none : (goes has : Bool) (old new : SinkState) → (goes || has) ≡ false → (all : SinkState) × IsWhole goes old all new × J all
+      → (all : SinkState) × IsWritten goes has old all new × J all
+  with_none false false old new is ran = ran
+  with_none true has old new is ran = cc
+  with_none false true old new is ran = cc
 
 -- a fault where the number of workers is one that a run may have
 known : (peers : ℕ) (accept : Option ℕ) (workers : ℕ) (sink sink_new : SinkState) (answer : Result (Unit {0}) ServeFault) → IsCrew workers

@@ -8,6 +8,7 @@ pub mod Load
 pub mod Peers
 pub mod Replay
 pub mod Reports
+pub mod Runs
 pub mod Serve
 pub mod Served
 pub mod Serves

@@ -21,7 +21,7 @@ mod remarks;
 mod replay;
 mod reports;
 mod request;
-mod resumes;
+mod running;
 mod scraping;
 mod serve;
 mod serves;

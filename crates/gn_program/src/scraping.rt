@@ -1,24 +1,25 @@
 //! A run whose counts are asked for while it goes on.
 
-ghost use Rattle.std.specs.Prelude.{◌≡◌, ◌+◌, ◌≤◌, ◌∷◌, [], Some, false, is_some, length, unwrap_or};
+ghost use Rattle.std.specs.Prelude.{◌≡◌, ◌∷◌, [], Some, is_some};
 ghost use Rattle.gn_io.specs.Streams.{SinkState};
 ghost use Rattle.gn_load.specs.Any.{IsJournalledTaken};
-ghost use Rattle.gn_program.specs.Serves.{IsBeside, has_comments};
+ghost use Rattle.gn_program.specs.Limits.{goes_on};
 ghost use Rattle.gn_program.specs.Peers.{peer_at};
-ghost use Rattle.gn_rules.specs.Limits.{most_links};
+ghost use Rattle.gn_program.specs.Serves.{IsWritten, has_comments};
 
-use crate::calls::Calls;
+use crate::running::Running;
 use crate::serve::ServeOptions;
-use crate::serves::{here, listen, run};
+use crate::serves::{here, listen};
 use crate::told::Told;
 use gn_comments::{Lent, Naming};
 use gn_io::Sink;
 use gn_links::{LinkFault, Watch};
-use gn_load::{ServeHalted, Taken, Taking};
+use gn_load::{ServeHalted, Taken};
 use gn_metrics::{Desk, Metered, Meters};
-use gn_service::{Host, Parting, Ran, Serve};
+use gn_service::{Host, Parting, Ran};
 use std::alloc::Global;
 use std::hash::RandomState;
+use std::io::StdinLock;
 use std::marker::{Brand, PhantomData};
 use std::net::{Ipv4Addr, Net, SocketAddr, SocketAddrV4, TcpListener, TcpStream};
 use std::random::RandomSource;
@@ -74,17 +75,14 @@ pub(crate) fn listen_both<R: Net<Listener = TcpListener, Stream = TcpStream> + R
     Ok((listener, desk))
 }
 
-/// A run over the sink that `B` names, whose history is counted there.
+/// A router, and the sink that `B` names, to which its history is written and where that is counted.
 #[derive(Drop)]
 struct Counted<'a, 's, 'w, B: Naming, R, G, T, W> {
-    rt: &'a R,
-    serve: &'a Serve<'a, 's, Calls<'a, G>, Taking<'a, T>>,
-    serving: &'a ServeOptions,
+    router: &'a Running<'a, 's, R, G, T>,
     lent: Lent<'w, W>,
-    scraped: Scraped<'a>,
+    meters: &'a Meters,
     of: PhantomData<B>,
     ghost named: { lent.sink.ghost_name ≡ B.sink },
-    ghost few: { unwrap_or serve.now.accept.accept 0 + length serve.now.peers.now ≤ most_links },
 }
 
 impl<
@@ -92,106 +90,101 @@ impl<
     's,
     'w,
     B: Naming + Send,
-    R: Host,
+    R: Host + Input<Reader = StdinLock<'static>>,
     G: Watch + Sync,
     T: Parting<Global> + Sync,
     W: Sink + Send,
 > Counted<'a, 's, 'w, B, R, G, T, W> {
     /// Runs the router, and writes its history while it runs.
-    fn run(self, alloc: Global) -> (Result<(Taken<'s>, Ran), ServeHalted>, Lent<'w, W>)
+    fn run(self) -> (Result<(Taken<'s>, Ran), ServeHalted>, Lent<'w, W>)
         ensures here { result.1.sink.ghost_name ≡ self.entry.lent.sink.ghost_name }
-        ensures ran { let s = self.entry.serve.now in (bare : SinkState)
-            × IsBeside (has_comments self.entry.serving.now) (W.state self.entry.lent.sink.now) bare
+        ensures ran { let r = self.entry.router.now in let s = r.serve.now in (all : SinkState)
+            × IsWritten (goes_on r.serving.now) (has_comments r.serving.now) (W.state self.entry.lent.sink.now) all
             (W.state result.1.sink.now)
-            × IsJournalledTaken false s.accept.again (is_some s.accept.pings) s.batch s.config.now s.peers.now
-            s.accept.accept s.workers (W.state self.entry.lent.sink.now) bare result.0 }
+            × IsJournalledTaken (goes_on r.serving.now) s.accept.again (is_some s.accept.pings) s.batch s.config.now
+            s.peers.now s.accept.accept s.workers (W.state self.entry.lent.sink.now) all result.0 }
     {
         let Counted {
-            rt,
-            serve,
-            serving,
+            router,
             lent,
-            scraped,
-            ..
+            meters,
+            of: _,
         } = self;
-        let mut metered = Metered::<B, W>::new(lent, scraped.meters);
-        let answer = run(rt, alloc, serve, serving, &mut metered);
+        let mut metered = Metered::<B, W>::new(lent, meters);
+        let answer = router.run(&mut metered);
         (answer, metered.into_inner())
     }
 }
 
-/// Runs the router, writes its history while it runs to the sink that `B` names, where it is counted, and answers beside it who asks for
+/// Runs a router, and writes its history while it runs to the sink that `B` names, where it is counted, and answers beside it who asks for
 /// the counts.
 fn run_beside<
     's,
     'w,
     B: Naming + Send,
-    R: Host,
+    R: Host + Input<Reader = StdinLock<'static>>,
     G: Watch + Sync,
     T: Parting<Global> + Sync,
     W: Sink + Send,
 >(
-    rt: &R,
-    alloc: Global,
-    serve: &Serve<'_, 's, Calls<'_, G>, Taking<'_, T>>,
-    serving: &ServeOptions,
-    lent: Lent<'w, W>,
+    router: &Running<'_, 's, R, G, T>,
     scraped: Scraped<'_>,
+    lent: Lent<'w, W>,
 ) -> (Result<(Taken<'s>, Ran), ServeHalted>, Lent<'w, W>)
     requires named { lent.sink.ghost_name ≡ B.sink }
-    requires few { unwrap_or serve.now.accept.accept 0 + length serve.now.peers.now ≤ most_links }
     ensures here { result.1.sink.ghost_name ≡ lent.entry.sink.ghost_name }
-    ensures ran { let s = serve.now in (bare : SinkState)
-        × IsBeside (has_comments serving.now) (W.state lent.entry.sink.now) bare (W.state result.1.sink.now)
-        × IsJournalledTaken false s.accept.again (is_some s.accept.pings) s.batch s.config.now s.peers.now
-        s.accept.accept s.workers (W.state lent.entry.sink.now) bare result.0 }
+    ensures ran { let r = router.now in let s = r.serve.now in (all : SinkState)
+        × IsWritten (goes_on r.serving.now) (has_comments r.serving.now) (W.state lent.entry.sink.now) all
+        (W.state result.1.sink.now)
+        × IsJournalledTaken (goes_on r.serving.now) s.accept.again (is_some s.accept.pings) s.batch s.config.now
+        s.peers.now s.accept.accept s.workers (W.state lent.entry.sink.now) all result.0 }
 {
+    let Scraped { desk, meters } = scraped;
     let counted = Counted {
-        rt,
-        serve,
-        serving,
+        router,
         lent,
-        scraped,
+        meters,
         of: PhantomData::<B>,
     };
-    let Scraped { desk, meters } = scraped;
     desk.beside(
-        rt,
-        alloc,
+        router.rt,
+        router.alloc,
         meters,
         move ||
             ensures here { result.1.sink.ghost_name ≡ counted.entry.lent.sink.ghost_name }
-            ensures ran { let s = counted.entry.serve.now in (bare : SinkState)
-                × IsBeside (has_comments counted.entry.serving.now) (W.state counted.entry.lent.sink.now) bare
-                (W.state result.1.sink.now)
-                × IsJournalledTaken false s.accept.again (is_some s.accept.pings) s.batch s.config.now s.peers.now
-                s.accept.accept s.workers (W.state counted.entry.lent.sink.now) bare result.0 }
-        { counted.run(alloc) },
+            ensures ran { let r = counted.entry.router.now in let s = r.serve.now in (all : SinkState)
+                × IsWritten (goes_on r.serving.now) (has_comments r.serving.now)
+                (W.state counted.entry.lent.sink.now) all (W.state result.1.sink.now)
+                × IsJournalledTaken (goes_on r.serving.now) s.accept.again (is_some s.accept.pings) s.batch
+                s.config.now s.peers.now s.accept.accept s.workers (W.state counted.entry.lent.sink.now) all
+                result.0 }
+        { counted.run() },
     )
 }
 
-/// Runs the router, and writes its history while it runs, as `run` does; where the counts are asked for, who asks is answered beside it.
-pub(crate) fn run_scraped<'s, R: Host, G: Watch + Sync, T: Parting<Global> + Sync, W: Sink + Send>(
-    rt: &R,
-    alloc: Global,
-    serve: &Serve<'_, 's, Calls<'_, G>, Taking<'_, T>>,
-    serving: &ServeOptions,
-    writer: &mut W,
+/// Runs a router, and writes its history while it runs. Where the counts are asked for, who asks is answered beside it.
+pub(crate) fn run_scraped<
+    's,
+    R: Host + Input<Reader = StdinLock<'static>>,
+    G: Watch + Sync,
+    T: Parting<Global> + Sync,
+    W: Sink + Send,
+>(
+    router: &Running<'_, 's, R, G, T>,
     desk: Option<&Desk>,
+    writer: &mut W,
 ) -> Result<(Taken<'s>, Ran), ServeHalted>
-    requires few { unwrap_or serve.now.accept.accept 0 + length serve.now.peers.now ≤ most_links }
-    ensures { let s = serve.now in (bare : SinkState)
-        × IsBeside (has_comments serving.now) (W.state writer.old) bare (W.state writer.new)
-        × IsJournalledTaken false s.accept.again (is_some s.accept.pings) s.batch s.config.now s.peers.now
-        s.accept.accept s.workers (W.state writer.old) bare result }
+    ensures { let r = router.now in let s = r.serve.now in (all : SinkState)
+        × IsWritten (goes_on r.serving.now) (has_comments r.serving.now) (W.state writer.old) all
+        (W.state writer.new)
+        × IsJournalledTaken (goes_on r.serving.now) s.accept.again (is_some s.accept.pings) s.batch s.config.now
+        s.peers.now s.accept.accept s.workers (W.state writer.old) all result }
 {
-    let (Some(desk), Some(meters)) = (desk, serve.watch.meters()) else {
-        return run(rt, alloc, serve, serving, writer);
+    let (Some(desk), Some(meters)) = (desk, router.serve.watch.meters()) else {
+        return router.run(writer);
     };
     let scraped = Scraped { desk, meters };
     let lent = Lent { sink: writer };
-    let (answer, Lent { sink: _sink }) = run_beside::<Brand, R, G, T, W>(
-        rt, alloc, serve, serving, lent, scraped,
-    );
+    let (answer, Lent { sink: _sink }) = run_beside::<Brand, R, G, T, W>(router, scraped, lent);
     answer
 }

@@ -4,11 +4,10 @@ ghost use Rattle.std.specs.Prelude.{◌≡◌, ◌⊎◌, ◌*◌, ◌+◌, ◌<
 ghost use Rattle.std.specs.Option.{IsSomeAnd};
 ghost use Rattle.std.specs.Bool.{then_some};
 ghost use Rattle.std.specs.Duration.{as_nanos};
-ghost use Rattle.gn_comments.specs.Sinks.{HasWrittenBoth, without_comments};
 ghost use Rattle.gn_io.specs.Streams.{SinkState};
 ghost use Rattle.gn_load.specs.Any.{IsJournalledTaken};
 ghost use Rattle.gn_program.specs.Served.{halted_served, served_by};
-ghost use Rattle.gn_program.specs.Serves.{HasServed, IsBeside, IsIdOf, IsServing, IsWritten, has_comments};
+ghost use Rattle.gn_program.specs.Serves.{HasServed, IsIdOf, IsServing, IsWritten, has_comments};
 ghost use Rattle.gn_program.specs.Limits.{IsLimit, IsStopOf, calls_again, goes_on, may_stop, seconds_of};
 ghost use Rattle.gn_program.specs.Peers.{AreAt, IsHere};
 ghost use Rattle.gn_rules.specs.Limits.{most_links};
@@ -16,21 +15,20 @@ ghost use Rattle.gn_start.specs.declared.fault.RunFault.TheVariants.{Listen, NoM
 ghost use Rattle.gn_words.specs.Options.{calls_far};
 ghost use Rattle.gn_words.specs.declared.servent.Servent.TheVariants.{Random};
 
+use crate::before::Reread;
 use crate::calls::Calls;
 use crate::eof::stop_at_eof;
 use crate::leavings::Leavings;
-use crate::remarks::Remarks;
 use crate::reports::{write_account, write_stats, write_stopped};
-use crate::resumes::resume;
+use crate::running::Running;
 use crate::scraping::{listen_both, run_scraped};
 use crate::serve::ServeOptions;
 use crate::text::write_text;
 use crate::told::Told;
-use gn_comments::{Commented, Lent, Naming};
 use gn_io::Sink;
 use gn_links::{LinkFault, Watch};
-use gn_load::{ServeFault, ServeHalted, Taken, Taking, serve_taken};
-use gn_metrics::Desk;
+use gn_load::{ServeFault, ServeHalted, Taken, Taking};
+use gn_metrics::{Desk, Meters};
 use gn_report::LinkTally;
 use gn_rules::{Config, Own};
 use gn_service::{Batch, Host, Parting, Pings, Ran, Serve, Serving, Stop, TcpReader, TcpWriter};
@@ -42,7 +40,6 @@ use std::alloc::{AllocError, Global};
 use std::fmt;
 use std::fmt::{Display, Formatter, Write};
 use std::io::StdinLock;
-use std::marker::Brand;
 use std::net::{Ipv4Addr, Net, SocketAddr, SocketAddrV4, TcpListener, TcpStream};
 use std::random::RandomSource;
 use std::sync::Arc;
@@ -311,78 +308,9 @@ fn taking<'a, R: Clock, T>(
     }
 }
 
-/// Whether comments stand in the history: times, or links.
-fn has_comments(serving: &ServeOptions) -> bool
-    ensures { result ≡ has_comments serving.now }
-{
-    serving.times || serving.links
-}
-
-/// Runs the router, and writes its history while it runs, with comments.
-fn run_commented<
-    's,
-    'w,
-    B: Naming + Send,
-    R: Host,
-    G: Watch + Sync,
-    T: Parting<Global> + Sync,
-    W: Sink + Send,
->(
-    rt: &R,
-    alloc: Global,
-    serve: &Serve<'_, 's, Calls<'_, G>, Taking<'_, T>>,
-    serving: &ServeOptions,
-    lent: Lent<'w, W>,
-) -> (Result<(Taken<'s>, Ran), ServeHalted>, Lent<'w, W>)
-    requires named { lent.sink.ghost_name ≡ B.sink }
-    requires begun { W.state lent.sink.now ≡ B.begun }
-    requires few { unwrap_or serve.now.accept.accept 0 + length serve.now.peers.now ≤ most_links }
-    ensures here { result.1.sink.ghost_name ≡ lent.entry.sink.ghost_name }
-    ensures ran { let s = serve.now in (text : List ℕ)
-        × HasWrittenBoth (W.state lent.entry.sink.now) (W.state result.1.sink.now) text
-        × IsJournalledTaken false s.accept.again (is_some s.accept.pings) s.batch s.config.now s.peers.now
-        s.accept.accept s.workers (W.state lent.entry.sink.now)
-        (without_comments (W.state lent.entry.sink.now) (W.state result.1.sink.now) text) result.0 }
-{
-    let remarks = Remarks::new(rt, alloc, serve.watch, serve.peers, serving);
-    let mut commented = Commented::<B, W, Remarks<'_, '_, R, G>>::new(alloc, lent, remarks);
-    let answer = serve_taken::<_, _, _, _>(rt, alloc, serve, &mut commented);
-    (answer, commented.into_inner())
-}
-
-/// Runs the router, and writes its history while it runs, with comments where they are asked for.
-pub(crate) fn run<'s, R: Host, G: Watch + Sync, T: Parting<Global> + Sync, W: Sink + Send>(
-    rt: &R,
-    alloc: Global,
-    serve: &Serve<'_, 's, Calls<'_, G>, Taking<'_, T>>,
-    serving: &ServeOptions,
-    writer: &mut W,
-) -> Result<(Taken<'s>, Ran), ServeHalted>
-    requires few { unwrap_or serve.now.accept.accept 0 + length serve.now.peers.now ≤ most_links }
-    ensures { let s = serve.now in (bare : SinkState)
-        × IsBeside (has_comments serving.now) (W.state writer.old) bare (W.state writer.new)
-        × IsJournalledTaken false s.accept.again (is_some s.accept.pings) s.batch s.config.now s.peers.now
-        s.accept.accept s.workers (W.state writer.old) bare result }
-{
-    if has_comments(serving) {
-        let lent = Lent { sink: writer };
-        let (answer, Lent { sink: _sink }) = run_commented::<Brand, R, G, T, W>(
-            rt, alloc, serve, serving, lent,
-        );
-        return answer;
-    }
-    serve_taken::<_, _, _, _>(rt, alloc, serve, writer)
-}
-
-/// Whether the router goes on with the history that standard input gives.
-fn goes_on(serving: &ServeOptions) -> bool
-    ensures { result ≡ goes_on serving.now }
-{
-    serving.resumes && serving.accept.is_none()
-}
-
-/// Runs the router, and writes its history while it runs, as `resume` does where it goes on with one, or as `run_scraped` does.
-fn run_asked<
+/// Runs the router, and writes its history while it runs, or what comes behind the one that it goes on with. Where the counts are asked
+/// for, who asks is answered beside it.
+fn run_on<
     's,
     R: Host + Input<Reader = StdinLock<'static>>,
     G: Watch + Sync,
@@ -395,7 +323,8 @@ fn run_asked<
     serving: &ServeOptions,
     writer: &mut W,
     desk: Option<&Desk>,
-    told: &mut Told,
+    reread: &Reread,
+    meters: &Meters,
 ) -> Result<(Taken<'s>, Ran), ServeHalted>
     requires few { unwrap_or serve.now.accept.accept 0 + length serve.now.peers.now ≤ most_links }
     requires accept { serve.now.accept.accept ≡ serving.now.accept }
@@ -404,13 +333,19 @@ fn run_asked<
         × IsJournalledTaken (goes_on serving.now) s.accept.again (is_some s.accept.pings) s.batch s.config.now
         s.peers.now s.accept.accept s.workers (W.state writer.old) all result }
 {
-    if goes_on(serving) {
-        return resume(rt, alloc, serve, serving, writer, desk, told);
-    }
-    run_scraped(rt, alloc, serve, serving, writer, desk)
+    let router = Running {
+        rt,
+        alloc,
+        serve,
+        serving,
+        reread,
+        meters,
+    };
+    run_scraped(&router, desk, writer)
 }
 
-/// What a router serves with: what it is, whom it calls and by what it is stopped, and where it is called and asked for its counts.
+/// What a router serves with: what it is, whom it calls and by what it is stopped, where it is called and asked for its counts, and what
+/// becomes known of the history that it goes on with, and is counted of that where nobody asks.
 #[derive(Drop)]
 struct Prepared {
     config: Config,
@@ -418,6 +353,18 @@ struct Prepared {
     stop: Arc<Stop, Global>,
     listener: TcpListener,
     desk: Option<Desk>,
+    reread: Reread,
+    unasked: Meters,
+}
+
+impl Prepared {
+    /// Where it is counted what the router goes on with: where the counts of the run are, if anybody asks for them.
+    fn meters<'a, G>(&'a self, calls: &'a Calls<'_, G>) -> &'a Meters {
+        match calls.meters() {
+            Some(meters) => meters,
+            None => &self.unasked,
+        }
+    }
 }
 
 /// What a router of this configuration serves with, once it listens. What the system said of a port, where that fails, stays in `told`.
@@ -441,6 +388,8 @@ fn prepare<R: Host + Input<Reader = StdinLock<'static>> + RandomSource>(
             stop,
             listener,
             desk,
+            reread: Reread::new(),
+            unasked: Meters::new(rt, serving.numbers.steps),
         }),
         Err(_) => Err(RunFault::Listen),
     }
@@ -459,9 +408,9 @@ fn run_prepared<
     serving: &ServeOptions,
     prepared: &'s Prepared,
     calls: &Calls<'_, G>,
+    meters: &Meters,
     writer: &mut W,
     faults: &mut F,
-    told: &mut Told,
 ) -> Result<(Taken<'s>, Ran), ServeHalted>
     requires peers { AreAt serving.now.peers prepared.now.peers.items }
     ensures { let s = serving.now in (all : SinkState)
@@ -481,7 +430,16 @@ fn run_prepared<
         batch: batch_of(serving.batch),
     };
     let desk = prepared.desk.as_ref();
-    run_asked(rt, alloc, &asked, serving, writer, desk, told)
+    run_on(
+        rt,
+        alloc,
+        &asked,
+        serving,
+        writer,
+        desk,
+        &prepared.reread,
+        meters,
+    )
 }
 
 /// What a serve answers, and what is remembered of its run.
@@ -570,6 +528,8 @@ pub(crate) fn serve<
         }
     };
     let _ = write_text(faults, Listening(serving.port));
-    let answer = run_prepared(rt, alloc, serving, &prepared, calls, writer, faults, told);
+    let meters = prepared.meters(calls);
+    let answer = run_prepared(rt, alloc, serving, &prepared, calls, meters, writer, faults);
+    prepared.reread.tell(told);
     ended(alloc, serving, calls, &prepared.peers, answer, faults)
 }

@@ -7,11 +7,11 @@ use Rattle.gn_program.proofs.serves.run_prepared.Goals as goal
 
 pub returns : goal.returns
 returns g c =
-    let ran = c.run_asked.ensures in
+    let ran = c.run_on.ensures in
     let s = c.args.serving.now in
     let taking = c.taking.result in
     let J = λ (again pings : Bool) (batch : ℕ) (called : List SocketAddr) (accept : Option ℕ) (workers : ℕ).
-    IsJournalledTaken {A = Global} (goes_on s) again pings batch c.args.prepared.now.config called accept workers (g.W.Sink.state c.args.writer.now) ran.0 c.run_asked.result in (
+    IsJournalledTaken {A = Global} (goes_on s) again pings batch c.args.prepared.now.config called accept workers (g.W.Sink.state c.args.writer.now) ran.0 c.run_on.result in (
       ran.0,
       ran.1,
       subst (λ (again : Bool). J again (is_some s.ping) s.batch c.args.prepared.now.peers.items s.accept s.workers) c.taking.ensures.again

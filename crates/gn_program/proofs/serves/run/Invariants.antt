@@ -1,4 +1,0 @@
-use Rattle.gn_program.proofs.serves.run.Given as goal
-
-abbrev pub ghosts-run_commented : goal.ghosts-run_commented
-ghosts-run_commented g a = record { sink = a.lent.sink.ghost_name; begun = g.W.Sink.state a.lent.sink.now }
