@@ -61,7 +61,7 @@ impl Reread {
 }
 
 /// How far a history is read.
-#[derive(Clone, Copy, PartialEq, Eq)]
+#[derive(Clone, Copy)]
 enum Phase {
     Header,
     Steps,
@@ -77,7 +77,8 @@ pub(crate) struct Before<'a, S> {
     lines: LineReader,
     source: Measured<S>,
     reread: &'a Reread,
-    meters: &'a Meters,
+    /// Where it is counted, if it is anywhere.
+    meters: Option<&'a Meters>,
     phase: Phase,
     /// The number of the line that was read last.
     line: u64,
@@ -107,7 +108,7 @@ impl<'a, S: Source> Before<'a, S> {
         config: &'a Config,
         source: S,
         reread: &'a Reread,
-        meters: &'a Meters,
+        meters: Option<&'a Meters>,
     ) -> Self {
         Before {
             alloc,
@@ -143,7 +144,9 @@ impl<'a, S: Source> Before<'a, S> {
             return Err(self.reread.stop(Misfit::Cut { line, whole }));
         }
         self.phase = Phase::Over;
-        self.meters.go_on(&self.counts, self.made);
+        if let Some(meters) = self.meters {
+            meters.go_on(&self.counts, self.made);
+        }
         self.reread.standing.set(self.count);
         Ok(())
     }
@@ -183,14 +186,10 @@ impl<'a, S: Source> Before<'a, S> {
         Ok(read_history_line(alloc, &(number, self.lines.line()))?)
     }
 
-    /// Counts the line that was read last. Where it is no step, all is read, and its last line isn't to be `end`.
-    fn count_line(&mut self, is_step: bool) -> Result<(), RunFault>
+    /// All its steps are read, and its last line isn't to be `end`.
+    fn end_steps(&mut self) -> Result<(), RunFault>
         ensures { IfErr result (λ fault. fault ≡ NoMemory) }
     {
-        if is_step {
-            self.count = self.count.saturating_add(1);
-            return Ok(());
-        }
         if !self.lines.has_added_end() {
             return Err(self.reread.stop(Misfit::Ended));
         }
@@ -198,15 +197,20 @@ impl<'a, S: Source> Before<'a, S> {
     }
 
     /// Reads its next step, if there is one.
-    fn read_step<A: Allocator + Copy>(&mut self, alloc: A) -> Result<Option<Step<A>>, RunFault>
+    fn read_step<A: Allocator + Copy>(&mut self, alloc: A) -> Result<Option<Recall<A>>, RunFault>
         ensures { IfErr result (λ fault. fault ≡ NoMemory) }
     {
-        let step = match self.read_line(alloc) {
-            Ok(step) => step,
-            Err(fault) => return Err(self.stop_at(fault)),
-        };
-        self.count_line(step.is_some())?;
-        Ok(step)
+        match self.read_line(alloc) {
+            Ok(Some(step)) => {
+                self.count = self.count.saturating_add(1);
+                Ok(Some(recall_of(step)))
+            }
+            Ok(None) => {
+                self.end_steps()?;
+                Ok(None)
+            }
+            Err(fault) => Err(self.stop_at(fault)),
+        }
     }
 
     /// Counts a reply.
@@ -249,7 +253,9 @@ impl<'a, S: Source> Before<'a, S> {
         match (&recall.reply, answer) {
             (Some(reply), Ok(receipt)) => self.compare(reply, receipt),
             (None, Ok(_)) => {
-                self.meters.add_made();
+                if let Some(meters) = self.meters {
+                    meters.add_made();
+                }
                 Ok(())
             }
             (_, Err(Refusal::NoMemory)) => Err(RunFault::NoMemory),
@@ -259,13 +265,13 @@ impl<'a, S: Source> Before<'a, S> {
     }
 }
 
-/// The recall of this step, if there is one.
-fn recall_of<A: Allocator>(step: Option<Step<A>>) -> Option<Recall<A>> {
-    let Step { event, reply, .. } = step?;
-    Some(Recall {
+/// The recall of this step.
+fn recall_of<A: Allocator>(step: Step<A>) -> Recall<A> {
+    let Step { event, reply, .. } = step;
+    Recall {
         event,
         reply: Some(reply),
-    })
+    }
 }
 
 /// The recall of this event, if there is one, which ends what is left open.
@@ -280,14 +286,13 @@ impl<'a, S: Source + Drop> Past for Before<'a, S> {
     ghost recalls = { λ _. true };
 
     fn recall<A: Allocator + Copy>(&mut self, alloc: A) -> Result<Option<Recall<A>>, RunFault> {
-        if self.phase == Phase::Header {
+        if matches!(self.phase, Phase::Header) {
             self.read_header()?;
         }
-        if self.phase == Phase::Steps {
-            let recall = recall_of(self.read_step(alloc)?);
-            if recall.is_some() {
-                return Ok(recall);
-            }
+        if matches!(self.phase, Phase::Steps)
+            && let Some(recall) = self.read_step(alloc)?
+        {
+            return Ok(Some(recall));
         }
         Ok(end_of(self.open.next_end()))
     }

@@ -18,14 +18,13 @@ use gn_comments::{Commented, Continued, Lent, Naming};
 use gn_io::{ReaderSource, Sink};
 use gn_links::Watch;
 use gn_load::{ServeHalted, Taken, Taking, serve_resumed, serve_taken};
-use gn_metrics::Meters;
+use gn_metrics::{Desk, Metered, Meters};
 use gn_service::{Host, Parting, Ran, Serve};
 use std::alloc::Global;
 use std::io::StdinLock;
 use std::marker::Brand;
 
-/// A router that is run, what its options say of that, and what becomes known of the history that it goes on with and is counted of that,
-/// where it goes on with one.
+/// A router that is run, what its options say of that, and what becomes known of the history that it goes on with, where it goes on with one.
 #[derive(Drop)]
 pub(crate) struct Running<'a, 's, R, G, T> {
     pub rt: &'a R,
@@ -33,7 +32,6 @@ pub(crate) struct Running<'a, 's, R, G, T> {
     pub serve: &'a Serve<'a, 's, Calls<'a, G>, Taking<'a, T>>,
     pub serving: &'a ServeOptions,
     pub reread: &'a Reread,
-    pub meters: &'a Meters,
     ghost few: { unwrap_or serve.now.accept.accept 0 + length serve.now.peers.now ≤ most_links },
     ghost accept: { serve.now.accept.accept ≡ serving.now.accept },
 }
@@ -79,7 +77,7 @@ impl<
             self.serve.config,
             source,
             self.reread,
-            self.meters,
+            self.serve.watch.meters(),
         );
         let mut rest = Continued::<B, W>::new(lent, &self.reread.standing);
         let answer = serve_resumed(self.rt, self.alloc, self.serve, past, &mut rest);
@@ -147,5 +145,73 @@ impl<
             return answer;
         }
         self.run_bare(writer)
+    }
+
+    /// Does the same, to the sink that `B` names, where the text is counted.
+    fn run_counted<'w, B: Naming + Send, W: Sink + Send>(
+        &self,
+        meters: &Meters,
+        lent: Lent<'w, W>,
+    ) -> (Result<(Taken<'s>, Ran), ServeHalted>, Lent<'w, W>)
+        requires named { lent.sink.ghost_name ≡ B.sink }
+        ensures here { result.1.sink.ghost_name ≡ lent.entry.sink.ghost_name }
+        ensures ran { let s = self.now.serve.now in (all : SinkState)
+            × IsWritten (goes_on self.now.serving.now) (has_comments self.now.serving.now)
+            (W.state lent.entry.sink.now) all (W.state result.1.sink.now)
+            × IsJournalledTaken (goes_on self.now.serving.now) s.accept.again (is_some s.accept.pings) s.batch
+            s.config.now s.peers.now s.accept.accept s.workers (W.state lent.entry.sink.now) all result.0 }
+    {
+        let mut metered = Metered::<B, W>::new(lent, meters);
+        let answer = self.run(&mut metered);
+        (answer, metered.into_inner())
+    }
+
+    /// Does the same, to any sink that is lent.
+    fn run_metered<'w, W: Sink + Send>(
+        &self,
+        meters: &Meters,
+        lent: Lent<'w, W>,
+    ) -> (Result<(Taken<'s>, Ran), ServeHalted>, Lent<'w, W>)
+        ensures here { result.1.sink.ghost_name ≡ lent.entry.sink.ghost_name }
+        ensures ran { let s = self.now.serve.now in (all : SinkState)
+            × IsWritten (goes_on self.now.serving.now) (has_comments self.now.serving.now)
+            (W.state lent.entry.sink.now) all (W.state result.1.sink.now)
+            × IsJournalledTaken (goes_on self.now.serving.now) s.accept.again (is_some s.accept.pings) s.batch
+            s.config.now s.peers.now s.accept.accept s.workers (W.state lent.entry.sink.now) all result.0 }
+    {
+        self.run_counted::<Brand, W>(meters, lent)
+    }
+
+    /// Runs the router, and writes its history as `run` does. Where its counts are asked for, who asks is answered beside it.
+    pub(crate) fn run_scraped<W: Sink + Send>(
+        &self,
+        desk: Option<&Desk>,
+        writer: &mut W,
+    ) -> Result<(Taken<'s>, Ran), ServeHalted>
+        ensures { let s = self.now.serve.now in (all : SinkState)
+            × IsWritten (goes_on self.now.serving.now) (has_comments self.now.serving.now) (W.state writer.old) all
+            (W.state writer.new)
+            × IsJournalledTaken (goes_on self.now.serving.now) s.accept.again (is_some s.accept.pings) s.batch
+            s.config.now s.peers.now s.accept.accept s.workers (W.state writer.old) all result }
+    {
+        let (Some(desk), Some(meters)) = (desk, self.serve.watch.meters()) else {
+            return self.run(writer);
+        };
+        let router = self;
+        let lent = Lent { sink: writer };
+        let (answer, Lent { sink: _sink }) = desk.beside(
+            self.rt,
+            self.alloc,
+            meters,
+            move ||
+                ensures here { result.1.sink.ghost_name ≡ lent.entry.sink.ghost_name }
+                ensures ran { let r = router.entry.now in let s = r.serve.now in (all : SinkState)
+                    × IsWritten (goes_on r.serving.now) (has_comments r.serving.now) (W.state lent.entry.sink.now)
+                    all (W.state result.1.sink.now)
+                    × IsJournalledTaken (goes_on r.serving.now) s.accept.again (is_some s.accept.pings) s.batch
+                    s.config.now s.peers.now s.accept.accept s.workers (W.state lent.entry.sink.now) all result.0 }
+            { router.run_metered(meters, lent) },
+        );
+        answer
     }
 }

@@ -5,28 +5,22 @@ ghost use Rattle.clap.specs.Words.{found_of, rows_of};
 ghost use Rattle.gn_rules.specs.Limits.{AreWithin, most};
 ghost use Rattle.gn_words.specs.Options.{IsReadAs, limit_of, number_asked};
 ghost use Rattle.gn_program.specs.Serve.{config_text, is_never_crowded, metrics_of, numbers_of, rates_of, serve_app, serving_of, shared_of, times_of};
-ghost use Rattle.gn_program.specs.Serves.{HasPrinted, LeavesServe, Serves, serve_asked};
+ghost use Rattle.gn_program.specs.Serves.{HasPrinted, Serves, serve_asked};
 
 use crate::answer::{DONE, write_fault};
-use crate::ended::Ended;
 use crate::fault::Fault;
 use crate::form::Command;
-use crate::serving::answer_serve;
 use crate::workers::{WORKERS, WORKERS_ROW};
 use clap::ArgMatches;
 use gn_io::{Sink, write_all};
-use gn_links::Watch;
 use gn_rules::Numbers;
-use gn_service::Host;
 use gn_words::{
     Group, NumberOption, OptionRow, Page, Peer, Retry, Said, Servent, Site, Takes, Unread,
     accept_of, asked, command_of, is_set, limit_asked, peers_of, push_rows, resumes_of, retry_of,
     retry_with, servent_of, site_of,
 };
 use std::alloc::{AllocError, Global};
-use std::io::StdinLock;
 use std::marker::Model;
-use std::random::RandomSource;
 
 /// A run over TCP, as its options ask for it.
 #[derive(Drop)]
@@ -926,7 +920,7 @@ fn config_text(alloc: Global, serving: &ServeOptions) -> Result<Vec<u8>, AllocEr
 }
 
 /// Writes the words that a serve would run with, and gives the status.
-fn print_config<W: Sink, F: Sink>(
+pub(crate) fn print_config<W: Sink, F: Sink>(
     alloc: Global,
     serving: &ServeOptions,
     writer: &mut W,
@@ -962,23 +956,6 @@ impl Command for Serve {
             Ok(Serve::Config(serving))
         } else {
             Ok(Serve::Run(serving))
-        }
-    }
-}
-
-impl Serve {
-    /// Serves, or writes the words, and says how that ended.
-    pub(crate) fn run<
-        R: Host + Input<Reader = StdinLock<'static>> + RandomSource,
-        G: Watch + Sync,
-        W: Sink + Send,
-        F: Sink + Send,
-    >(&self, rt: &R, alloc: Global, watch: &G, writer: &mut W, faults: &mut F) -> Ended
-        ensures { LeavesServe self.now result.ran (W.state writer.old) (W.state writer.new) result.status }
-    {
-        match self {
-            Serve::Run(serving) => answer_serve(rt, alloc, serving, watch, writer, faults),
-            Serve::Config(serving) => Ended::with(print_config(alloc, serving, writer, faults)),
         }
     }
 }

@@ -21,14 +21,14 @@ use crate::eof::stop_at_eof;
 use crate::leavings::Leavings;
 use crate::reports::{write_account, write_stats, write_stopped};
 use crate::running::Running;
-use crate::scraping::{listen_both, run_scraped};
+use crate::scraping::listen_both;
 use crate::serve::ServeOptions;
 use crate::text::write_text;
 use crate::told::Told;
 use gn_io::Sink;
 use gn_links::{LinkFault, Watch};
 use gn_load::{ServeFault, ServeHalted, Taken, Taking};
-use gn_metrics::{Desk, Meters};
+use gn_metrics::Desk;
 use gn_report::LinkTally;
 use gn_rules::{Config, Own};
 use gn_service::{Batch, Host, Parting, Pings, Ran, Serve, Serving, Stop, TcpReader, TcpWriter};
@@ -324,7 +324,6 @@ fn run_on<
     writer: &mut W,
     desk: Option<&Desk>,
     reread: &Reread,
-    meters: &Meters,
 ) -> Result<(Taken<'s>, Ran), ServeHalted>
     requires few { unwrap_or serve.now.accept.accept 0 + length serve.now.peers.now ≤ most_links }
     requires accept { serve.now.accept.accept ≡ serving.now.accept }
@@ -339,13 +338,12 @@ fn run_on<
         serve,
         serving,
         reread,
-        meters,
     };
-    run_scraped(&router, desk, writer)
+    router.run_scraped(desk, writer)
 }
 
 /// What a router serves with: what it is, whom it calls and by what it is stopped, where it is called and asked for its counts, and what
-/// becomes known of the history that it goes on with, and is counted of that where nobody asks.
+/// becomes known of the history that it goes on with.
 #[derive(Drop)]
 struct Prepared {
     config: Config,
@@ -354,17 +352,6 @@ struct Prepared {
     listener: TcpListener,
     desk: Option<Desk>,
     reread: Reread,
-    unasked: Meters,
-}
-
-impl Prepared {
-    /// Where it is counted what the router goes on with: where the counts of the run are, if anybody asks for them.
-    fn meters<'a, G>(&'a self, calls: &'a Calls<'_, G>) -> &'a Meters {
-        match calls.meters() {
-            Some(meters) => meters,
-            None => &self.unasked,
-        }
-    }
 }
 
 /// What a router of this configuration serves with, once it listens. What the system said of a port, where that fails, stays in `told`.
@@ -389,7 +376,6 @@ fn prepare<R: Host + Input<Reader = StdinLock<'static>> + RandomSource>(
             listener,
             desk,
             reread: Reread::new(),
-            unasked: Meters::new(rt, serving.numbers.steps),
         }),
         Err(_) => Err(RunFault::Listen),
     }
@@ -408,7 +394,6 @@ fn run_prepared<
     serving: &ServeOptions,
     prepared: &'s Prepared,
     calls: &Calls<'_, G>,
-    meters: &Meters,
     writer: &mut W,
     faults: &mut F,
 ) -> Result<(Taken<'s>, Ran), ServeHalted>
@@ -430,16 +415,7 @@ fn run_prepared<
         batch: batch_of(serving.batch),
     };
     let desk = prepared.desk.as_ref();
-    run_on(
-        rt,
-        alloc,
-        &asked,
-        serving,
-        writer,
-        desk,
-        &prepared.reread,
-        meters,
-    )
+    run_on(rt, alloc, &asked, serving, writer, desk, &prepared.reread)
 }
 
 /// What a serve answers, and what is remembered of its run.
@@ -528,8 +504,7 @@ pub(crate) fn serve<
         }
     };
     let _ = write_text(faults, Listening(serving.port));
-    let meters = prepared.meters(calls);
-    let answer = run_prepared(rt, alloc, serving, &prepared, calls, meters, writer, faults);
+    let answer = run_prepared(rt, alloc, serving, &prepared, calls, writer, faults);
     prepared.reread.tell(told);
     ended(alloc, serving, calls, &prepared.peers, answer, faults)
 }

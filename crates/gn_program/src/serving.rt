@@ -2,14 +2,14 @@
 
 ghost use Rattle.std.specs.Prelude.{◌≡◌};
 ghost use Rattle.gn_program.specs.Answers.{is_done, status_of};
-ghost use Rattle.gn_program.specs.Serves.{EndsServe, IsIdOf, ServesTo};
+ghost use Rattle.gn_program.specs.Serves.{IsIdOf, LeavesServe, ServesTo};
 
 use crate::answer::{DONE, FAULT, write_fault};
 use crate::calls::Calls;
 use crate::ended::Ended;
 use crate::fault::Fault;
 use crate::scraping::meters_of;
-use crate::serve::ServeOptions;
+use crate::serve::{Serve, ServeOptions, print_config};
 use crate::serves::{Served, id_of, serve};
 use crate::text::write_text;
 use crate::told::Told;
@@ -66,24 +66,32 @@ fn serve_watched<
     Ended { status, ran }
 }
 
-/// Serves, says how that ended, and how far it is where that is asked for, or whom it lets go.
-pub(crate) fn answer_serve<
-    R: Host + Input<Reader = StdinLock<'static>> + RandomSource,
-    G: Watch + Sync,
-    W: Sink + Send,
-    F: Sink + Send,
->(rt: &R, alloc: Global, serving: &ServeOptions, watch: &G, writer: &mut W, faults: &mut F) -> Ended
-    ensures { EndsServe serving.now result.ran (W.state writer.old) (W.state writer.new) result.status }
-{
-    let Some(id) = id_of(rt, serving.servent) else {
-        return Ended::with(write_fault(faults, Fault::NoRandomBytes));
-    };
-    if serving.progress {
-        return serve_watched(rt, alloc, serving, id, watch, writer, faults);
+impl Serve {
+    /// Serves, says how that ended, and how far it is where that is asked for, or whom it lets go; or writes the words.
+    pub(crate) fn run<
+        R: Host + Input<Reader = StdinLock<'static>> + RandomSource,
+        G: Watch + Sync,
+        W: Sink + Send,
+        F: Sink + Send,
+    >(&self, rt: &R, alloc: Global, watch: &G, writer: &mut W, faults: &mut F) -> Ended
+        ensures { LeavesServe self.now result.ran (W.state writer.old) (W.state writer.new) result.status }
+    {
+        let serving = match self {
+            Serve::Run(serving) => serving,
+            Serve::Config(serving) => {
+                return Ended::with(print_config(alloc, serving, writer, faults));
+            }
+        };
+        let Some(id) = id_of(rt, serving.servent) else {
+            return Ended::with(write_fault(faults, Fault::NoRandomBytes));
+        };
+        if serving.progress {
+            return serve_watched(rt, alloc, serving, id, watch, writer, faults);
+        }
+        let unwatched = Unwatched {
+            watch,
+            tells_floods: serving.report,
+        };
+        serve_watched(rt, alloc, serving, id, &unwatched, writer, faults)
     }
-    let unwatched = Unwatched {
-        watch,
-        tells_floods: serving.report,
-    };
-    serve_watched(rt, alloc, serving, id, &unwatched, writer, faults)
 }
