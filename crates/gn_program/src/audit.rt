@@ -41,7 +41,7 @@ line feed isn't looked at, and the line `end` may be missing",
 ];
 
 /// What help says of it, and what it takes.
-const HELP: Page = Page {
+static HELP: Page = Page {
     name: "audit",
     about: "Reads a history, and says whether each answer in it is right",
     usage: "gn audit [--explain | --unfinished] < HISTORY   (the history is read from standard input)",

@@ -35,11 +35,6 @@ struct Bound {
 }
 
 impl Bound {
-    /// A number that is `least` to `most`.
-    fn new(name: &'static str, least: u32, most: u32) -> Self {
-        Bound { name, least, most }
-    }
-
     /// Whether the field says a number within the bounds.
     fn holds(&self, field: &[u8]) -> bool {
         match number(field) {
@@ -152,28 +147,67 @@ impl Display for Detail<'_> {
 }
 
 /// The numbers of a `config` line of the last version, in their order.
-fn config_bounds() -> [Bound; 8] {
-    let most = Numbers::MOST;
-    [
-        Bound::new("NEIGHBOURS", 1, most.neighbours),
-        Bound::new("SEEN", 1, most.seen),
-        Bound::new("SERVENTS", 1, most.servents),
-        Bound::new("STAGE", 1, most.stage),
-        Bound::new("OUT", 1, most.out),
-        Bound::new("STEPS", 1, most.steps),
-        Bound::new("LIFE", 0, u32::from(most.life)),
-        Bound::new("CROWD", 0, most.crowd),
-    ]
-}
+static CONFIG_BOUNDS: [Bound; 8] = [
+    Bound {
+        name: "NEIGHBOURS",
+        least: 1,
+        most: Numbers::MOST.neighbours,
+    },
+    Bound {
+        name: "SEEN",
+        least: 1,
+        most: Numbers::MOST.seen,
+    },
+    Bound {
+        name: "SERVENTS",
+        least: 1,
+        most: Numbers::MOST.servents,
+    },
+    Bound {
+        name: "STAGE",
+        least: 1,
+        most: Numbers::MOST.stage,
+    },
+    Bound {
+        name: "OUT",
+        least: 1,
+        most: Numbers::MOST.out,
+    },
+    Bound {
+        name: "STEPS",
+        least: 1,
+        most: Numbers::MOST.steps,
+    },
+    Bound {
+        name: "LIFE",
+        least: 0,
+        most: Numbers::MOST.life as u32,
+    },
+    Bound {
+        name: "CROWD",
+        least: 0,
+        most: Numbers::MOST.crowd,
+    },
+];
 
 /// The numbers of an `own` line, in their order.
-fn own_bounds() -> [Bound; 3] {
-    [
-        Bound::new("PORT", 0, 65_535),
-        Bound::new("FILES", 0, u32::MAX),
-        Bound::new("KBYTES", 0, u32::MAX),
-    ]
-}
+static OWN_BOUNDS: [Bound; 3] = [
+    Bound {
+        name: "PORT",
+        least: 0,
+        most: 65_535,
+    },
+    Bound {
+        name: "FILES",
+        least: 0,
+        most: u32::MAX,
+    },
+    Bound {
+        name: "KBYTES",
+        least: 0,
+        most: u32::MAX,
+    },
+];
 
 /// The first of these fields that isn't within its bound; so many stand before them.
 fn first_out<'t>(
@@ -228,7 +262,7 @@ fn of_config<'t>(wanted: usize, found: &[&'t [u8]]) -> Option<Detail<'t>> {
             got: numbers.len(),
         });
     }
-    first_out(numbers, &config_bounds(), 0, "numbers")
+    first_out(numbers, &CONFIG_BOUNDS, 0, "numbers")
 }
 
 /// What is wrong with an `own` line.
@@ -236,7 +270,7 @@ fn of_own<'t>(found: &[&'t [u8]]) -> Option<Detail<'t>> {
     match found {
         [word, known @ ..] if is_word(word, b"own") => match known {
             [_, _, numbers @ ..] if numbers.len() == 3 => {
-                first_out(numbers, &own_bounds(), 2, "fields")
+                first_out(numbers, &OWN_BOUNDS, 2, "fields")
             }
             _ => Some(Detail::Many {
                 word: "own",

@@ -10,6 +10,11 @@ const ROOM: usize = 1024;
 /// The most bytes of an input: of a larger one nothing is told.
 const MOST: u64 = 67_108_864;
 
+/// Where the last line feed is, if there is one.
+pub(crate) fn last_feed(bytes: &[u8]) -> Option<usize> {
+    bytes.iter().rposition(|byte| *byte == b'\n')
+}
+
 /// The first bytes of an input, 1,024 at most.
 #[derive(Drop)]
 pub struct Head {
@@ -59,8 +64,7 @@ impl Head {
         if kept < ROOM {
             return (bytes, kept);
         }
-        let whole = bytes.iter().rposition(|byte| *byte == b'\n');
-        (bytes, whole.unwrap_or(0))
+        (bytes, last_feed(&bytes).unwrap_or(0))
     }
 }
 

@@ -41,7 +41,7 @@ const OPTIONS: [OptionRow; 2] = [
 ];
 
 /// What help says of it, and what it takes.
-const HELP: Page = Page {
+static HELP: Page = Page {
     name: "load",
     about: "Runs the links of a capture with many threads, and prints the history",
     usage: "gn load --workers V [--progress] < CAPTURE   (the capture is read from standard input)",

@@ -1,5 +1,6 @@
 //! An input of which it is known whether its last line is whole.
 
+use crate::head::last_feed;
 use gn_io::{IoFault, Source};
 
 /// A source, how many bytes it gave, and how many of them are whole lines.
@@ -36,8 +37,7 @@ impl<S: Source> Source for Measured<S> {
 
     fn read(&mut self, room: &mut [u8]) -> Result<usize, IoFault> {
         let count = self.source.read(room)?;
-        let feed = room[..count].iter().rposition(|byte| *byte == b'\n');
-        if let Some(at) = feed {
+        if let Some(at) = last_feed(&room[..count]) {
             self.whole = self.given.saturating_add(at as u64).saturating_add(1);
         }
         self.given = self.given.saturating_add(count as u64);

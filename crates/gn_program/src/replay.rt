@@ -29,7 +29,7 @@ const OPTIONS: [OptionRow; 1] = [OptionRow {
 }];
 
 /// What help says of it, and what it takes.
-const HELP: Page = Page {
+static HELP: Page = Page {
     name: "replay",
     about: "Reads a capture, and prints what the router answers",
     usage: "gn replay [--history] < CAPTURE   (the capture is read from standard input)",

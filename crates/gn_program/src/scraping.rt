@@ -4,7 +4,7 @@ ghost use Rattle.std.specs.Prelude.{◌≡◌, ◌∷◌, [], Some};
 ghost use Rattle.gn_program.specs.Peers.{peer_at};
 
 use crate::serve::ServeOptions;
-use crate::serves::{here, listen};
+use crate::serves::listen;
 use crate::told::Told;
 use gn_links::LinkFault;
 use gn_metrics::{Desk, Meters};
@@ -29,7 +29,7 @@ fn counted_at(port: u16) -> SocketAddr
 }
 
 /// Where the counts are asked for, where they are anywhere. What the system said of the port, where that fails, stays in `told`.
-fn desk_of<R: Net<Listener = TcpListener, Stream = TcpStream> + RandomSource>(
+pub(crate) fn desk_of<R: Net<Listener = TcpListener, Stream = TcpStream> + RandomSource>(
     rt: &R,
     serving: &ServeOptions,
     told: &mut Told,
@@ -42,16 +42,4 @@ fn desk_of<R: Net<Listener = TcpListener, Stream = TcpStream> + RandomSource>(
         Ok(keys) => Ok(Some(Desk::new(listener, keys)?)),
         Err(_) => Err(LinkFault),
     }
-}
-
-/// Listens for callers, and for who asks for the counts, where that is asked for. What the system said of a port, where that fails, stays
-/// in `told`.
-pub(crate) fn listen_both<R: Net<Listener = TcpListener, Stream = TcpStream> + RandomSource>(
-    rt: &R,
-    serving: &ServeOptions,
-    told: &mut Told,
-) -> Result<(TcpListener, Option<Desk>), LinkFault> {
-    let listener = listen(rt, here(serving), told)?;
-    let desk = desk_of(rt, serving, told)?;
-    Ok((listener, desk))
 }

@@ -498,7 +498,7 @@ after 5 seconds.
 };
 
 /// What `--port` takes.
-const PORT: NumberOption = NumberOption {
+static PORT: NumberOption = NumberOption {
     name: "port",
     least: 1,
     most: 65_535,
@@ -506,7 +506,7 @@ const PORT: NumberOption = NumberOption {
 };
 
 /// What `--files` takes: what four bytes hold.
-const FILES: NumberOption = NumberOption {
+static FILES: NumberOption = NumberOption {
     name: "files",
     least: 0,
     most: u32::MAX,
@@ -514,7 +514,7 @@ const FILES: NumberOption = NumberOption {
 };
 
 /// What `--kilobytes` takes: what four bytes hold.
-const KILOBYTES: NumberOption = NumberOption {
+static KILOBYTES: NumberOption = NumberOption {
     name: "kilobytes",
     least: 0,
     most: u32::MAX,
@@ -522,7 +522,7 @@ const KILOBYTES: NumberOption = NumberOption {
 };
 
 /// What `--metrics` takes.
-const METRICS: NumberOption = NumberOption {
+static METRICS: NumberOption = NumberOption {
     name: "metrics",
     least: 0,
     most: 65_535,
@@ -530,7 +530,7 @@ const METRICS: NumberOption = NumberOption {
 };
 
 /// What `--idle` takes: at most a day.
-const IDLE: NumberOption = NumberOption {
+static IDLE: NumberOption = NumberOption {
     name: "idle",
     least: 0,
     most: 86_400,
@@ -538,7 +538,7 @@ const IDLE: NumberOption = NumberOption {
 };
 
 /// What `--batch` takes.
-const BATCH: NumberOption = NumberOption {
+static BATCH: NumberOption = NumberOption {
     name: "batch",
     least: 1,
     most: 1024,
@@ -546,7 +546,7 @@ const BATCH: NumberOption = NumberOption {
 };
 
 /// What `--neighbours` takes.
-const NEIGHBOURS_AT_ONCE: NumberOption = NumberOption {
+static NEIGHBOURS_AT_ONCE: NumberOption = NumberOption {
     name: "neighbours",
     least: 1,
     most: Numbers::MOST.neighbours,
@@ -554,7 +554,7 @@ const NEIGHBOURS_AT_ONCE: NumberOption = NumberOption {
 };
 
 /// What `--remembered` takes.
-const REMEMBERED: NumberOption = NumberOption {
+static REMEMBERED: NumberOption = NumberOption {
     name: "remembered",
     least: 1,
     most: Numbers::MOST.seen,
@@ -562,7 +562,7 @@ const REMEMBERED: NumberOption = NumberOption {
 };
 
 /// What `--servents` takes.
-const SERVENTS: NumberOption = NumberOption {
+static SERVENTS: NumberOption = NumberOption {
     name: "servents",
     least: 1,
     most: Numbers::MOST.servents,
@@ -570,7 +570,7 @@ const SERVENTS: NumberOption = NumberOption {
 };
 
 /// What `--stage` takes.
-const STAGE: NumberOption = NumberOption {
+static STAGE: NumberOption = NumberOption {
     name: "stage",
     least: 1,
     most: Numbers::MOST.stage,
@@ -578,7 +578,7 @@ const STAGE: NumberOption = NumberOption {
 };
 
 /// What `--queue` takes.
-const QUEUE: NumberOption = NumberOption {
+static QUEUE: NumberOption = NumberOption {
     name: "queue",
     least: 1,
     most: Numbers::MOST.out,
@@ -586,7 +586,7 @@ const QUEUE: NumberOption = NumberOption {
 };
 
 /// What `--life` takes: what a byte holds.
-const LIFE: NumberOption = NumberOption {
+static LIFE: NumberOption = NumberOption {
     name: "life",
     least: 0,
     most: 255,
@@ -594,7 +594,7 @@ const LIFE: NumberOption = NumberOption {
 };
 
 /// What `--crowd` takes: as many as may be in flight.
-const CROWD: NumberOption = NumberOption {
+static CROWD: NumberOption = NumberOption {
     name: "crowd",
     least: 0,
     most: Numbers::MOST.crowd,
@@ -602,7 +602,7 @@ const CROWD: NumberOption = NumberOption {
 };
 
 /// What `--steps` takes: as many as a history may have.
-const STEPS: NumberOption = NumberOption {
+static STEPS: NumberOption = NumberOption {
     name: "steps",
     least: 1,
     most: Numbers::MOST.steps,
@@ -610,7 +610,7 @@ const STEPS: NumberOption = NumberOption {
 };
 
 /// What `--for` takes: at most a day.
-const SECONDS: NumberOption = NumberOption {
+static SECONDS: NumberOption = NumberOption {
     name: "for",
     least: 0,
     most: 86_400,
@@ -618,7 +618,7 @@ const SECONDS: NumberOption = NumberOption {
 };
 
 /// What `--grace` takes: at most an hour.
-const GRACE: NumberOption = NumberOption {
+static GRACE: NumberOption = NumberOption {
     name: "grace",
     least: 0,
     most: 3_600,
@@ -626,7 +626,7 @@ const GRACE: NumberOption = NumberOption {
 };
 
 /// What `--ping` takes: at most a day.
-const PING: NumberOption = NumberOption {
+static PING: NumberOption = NumberOption {
     name: "ping",
     least: 0,
     most: 86_400,
@@ -634,7 +634,7 @@ const PING: NumberOption = NumberOption {
 };
 
 /// What `--callers-a-minute` takes: at most a thousand a second.
-const CALLERS_A_MINUTE: NumberOption = NumberOption {
+static CALLERS_A_MINUTE: NumberOption = NumberOption {
     name: "callers-a-minute",
     least: 0,
     most: 60_000,
@@ -642,7 +642,7 @@ const CALLERS_A_MINUTE: NumberOption = NumberOption {
 };
 
 /// What `--flood` takes: at most a day.
-const FLOOD: NumberOption = NumberOption {
+static FLOOD: NumberOption = NumberOption {
     name: "flood",
     least: 0,
     most: 86_400,

@@ -21,7 +21,7 @@ use crate::eof::stop_at_eof;
 use crate::leavings::Leavings;
 use crate::reports::{write_account, write_stats, write_stopped};
 use crate::running::Running;
-use crate::scraping::listen_both;
+use crate::scraping::desk_of;
 use crate::serve::ServeOptions;
 use crate::text::write_text;
 use crate::told::Told;
@@ -201,7 +201,7 @@ fn bound<N: Net<Listener = TcpListener, Stream = TcpStream>>(
 }
 
 /// The address at which the router listens.
-pub(crate) fn here(serving: &ServeOptions) -> SocketAddr
+fn here(serving: &ServeOptions) -> SocketAddr
     ensures { IsHere serving.now result }
 {
     let ip = Ipv4Addr::from(serving.site.bind);
@@ -368,17 +368,20 @@ fn prepare<R: Host + Input<Reader = StdinLock<'static>> + RandomSource>(
 {
     let peers = addresses(alloc, &serving.peers)?;
     let stop = stop_of(rt, alloc, serving)?;
-    match listen_both(rt, serving, told) {
-        Ok((listener, desk)) => Ok(Prepared {
-            config,
-            peers,
-            stop,
-            listener,
-            desk,
-            reread: Reread::new(),
-        }),
-        Err(_) => Err(RunFault::Listen),
-    }
+    let Ok(listener) = listen(rt, here(serving), told) else {
+        return Err(RunFault::Listen);
+    };
+    let Ok(desk) = desk_of(rt, serving, told) else {
+        return Err(RunFault::Listen);
+    };
+    Ok(Prepared {
+        config,
+        peers,
+        stop,
+        listener,
+        desk,
+        reread: Reread::new(),
+    })
 }
 
 /// Runs the router, writes its history while it runs, and answers who asks for its counts. It is watched as it runs, by `calls`.

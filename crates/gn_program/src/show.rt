@@ -41,7 +41,7 @@ const OPTIONS: [OptionRow; 3] = [
 ];
 
 /// What help says of it, and what it takes.
-const HELP: Page = Page {
+static HELP: Page = Page {
     name: "show",
     about: "Reads a history, and prints each step in plain words or as JSON",
     usage: "gn show [--json | --csv | --stats] < HISTORY   (the history is read from standard input)",

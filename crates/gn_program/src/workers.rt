@@ -4,7 +4,7 @@ use gn_rules::MOST_WORKERS;
 use gn_words::{NumberOption, OptionRow, Takes};
 
 /// What `--workers` takes.
-pub(crate) const WORKERS: NumberOption = NumberOption {
+pub(crate) static WORKERS: NumberOption = NumberOption {
     name: "workers",
     least: 1,
     most: MOST_WORKERS,
