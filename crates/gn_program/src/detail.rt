@@ -15,15 +15,8 @@ const SHOWN: usize = 20;
 /// What a command reads.
 #[derive(Clone, Copy)]
 pub(crate) struct Reading {
-    command: &'static str,
-    text: Text,
-}
-
-impl Reading {
-    /// What a command of this name reads.
-    pub(crate) fn new(command: &'static str, text: Text) -> Self {
-        Reading { command, text }
-    }
+    pub command: &'static str,
+    pub text: Text,
 }
 
 /// A number of a text's first lines, and what it may be.

@@ -24,8 +24,10 @@ impl Display for Misfit {
         match self {
             Misfit::Unread(fault) => write!(f, "{fault}"),
             Misfit::Cut { line, whole } => {
-                writeln!(f, "fault: line {line}: cut")?;
-                writeln!(f, "input: the lines before have {whole} bytes")
+                writeln!(
+                    f,
+                    "fault: line {line}: cut\ninput: the lines before have {whole} bytes"
+                )
             }
             Misfit::Ended => f.write_str("fault: history ended\n"),
             Misfit::OtherOptions => f.write_str("fault: other options\n"),

@@ -146,13 +146,14 @@ pub(crate) fn mistake(alloc: Global, name: &str, text: &str) -> Result<Error, Al
 
 /// What is read where this is asked for.
 pub(crate) fn reading_of(request: &Request) -> Option<Reading> {
-    match request {
-        Request::Replay(_) => Some(Reading::new("replay", Text::Capture)),
-        Request::Audit(_) => Some(Reading::new("audit", Text::History)),
-        Request::Show(_) => Some(Reading::new("show", Text::History)),
-        Request::Load(_) => Some(Reading::new("load", Text::Capture)),
-        Request::Serve(_) => None,
-    }
+    let (command, text) = match request {
+        Request::Replay(_) => ("replay", Text::Capture),
+        Request::Audit(_) => ("audit", Text::History),
+        Request::Show(_) => ("show", Text::History),
+        Request::Load(_) => ("load", Text::Capture),
+        Request::Serve(_) => return None,
+    };
+    Some(Reading { command, text })
 }
 
 /// Does what is asked for.
@@ -176,17 +177,14 @@ pub(crate) fn obey<
         (streams (S.state reader.old) (S.state reader.new) (W.state writer.old) (W.state writer.new))
         result.status result.ran }
 {
-    match request {
-        Request::Replay(replay) => {
-            Ended::with(replay.run::<C, S, W, F>(alloc, reader, writer, faults))
-        }
-        Request::Audit(audit) => Ended::with(audit.run::<C, S, W, F>(
-            alloc, reader, writer, faults,
-        )),
-        Request::Show(show) => Ended::with(show.run(alloc, reader, writer, faults)),
-        Request::Load(load) => Ended::with(load.run(rt, alloc, watch, reader, writer, faults)),
-        Request::Serve(serve) => serve.run(rt, alloc, watch, writer, faults),
-    }
+    let status = match request {
+        Request::Replay(replay) => replay.run::<C, S, W, F>(alloc, reader, writer, faults),
+        Request::Audit(audit) => audit.run::<C, S, W, F>(alloc, reader, writer, faults),
+        Request::Show(show) => show.run(alloc, reader, writer, faults),
+        Request::Load(load) => load.run(rt, alloc, watch, reader, writer, faults),
+        Request::Serve(serve) => return serve.run(rt, alloc, watch, writer, faults),
+    };
+    Ended { status, ran: None }
 }
 
 /// The law that plain words are read as they say.

@@ -1,9 +1,9 @@
 //! The command `serve`: its words and help, what they ask for, and what it does.
 
-ghost use Rattle.std.specs.Prelude.{◌≡◌, ◌≤◌, IfOk, codes};
+ghost use Rattle.std.specs.Prelude.{◌≡◌, ◌≤◌, IfOk};
 ghost use Rattle.clap.specs.Words.{found_of, rows_of};
-ghost use Rattle.gn_rules.specs.Limits.{AreWithin, most};
-ghost use Rattle.gn_words.specs.Options.{IsReadAs, limit_of, number_asked};
+ghost use Rattle.gn_rules.specs.Limits.{AreWithin};
+ghost use Rattle.gn_words.specs.Options.{IsReadAs, limit_of};
 ghost use Rattle.gn_program.specs.Serve.{config_text, is_never_crowded, metrics_of, numbers_of, rates_of, serve_app, serving_of, shared_of, times_of};
 ghost use Rattle.gn_program.specs.Serves.{HasPrinted, Serves, serve_asked};
 
@@ -649,16 +649,6 @@ static FLOOD: NumberOption = NumberOption {
     mistake: "--flood takes a number of seconds, 0 to 86400",
 };
 
-/// The port that `--port` asks for, where there is such a one.
-fn port_of(options: &ArgMatches<'_>) -> Result<u16, Unread>
-    ensures { IsReadAs (λ n. n) (number_asked (codes "port") 1 65535 (rows_of (found_of options.now))) result }
-{
-    match asked(options, &PORT) {
-        Ok(port) => Ok(port as u16),
-        Err(unread) => Err(unread),
-    }
-}
-
 /// The port that so high a number says: none, where it is 0.
 fn metered_at(port: u32) -> Option<u16>
     requires { port ≤ 65535 }
@@ -669,24 +659,14 @@ fn metered_at(port: u32) -> Option<u16>
 
 /// The port where the counts are asked for that `--metrics` asks for, where there is such a one. A mistake, where that is the one that peers
 /// call.
-fn metrics_of(options: &ArgMatches<'_>, port: u16) -> Result<Option<u16>, Unread>
+fn metrics_of(options: &ArgMatches<'_>, port: u32) -> Result<Option<u16>, Unread>
     ensures { IsReadAs (λ m. m) (metrics_of port (rows_of (found_of options.now))) result }
 {
     let asked = asked(options, &METRICS)?;
-    if asked == port as u32 {
+    if asked == port {
         return Err(Unread::Mistake("--metrics takes another port than --port"));
     }
     Ok(metered_at(asked))
-}
-
-/// The limit on a descriptor's life that `--life` asks for, where a byte holds it.
-fn life_of(options: &ArgMatches<'_>) -> Result<u8, Unread>
-    ensures { IsReadAs (λ n. n) (number_asked (codes "life") 0 most.life (rows_of (found_of options.now))) result }
-{
-    match asked(options, &LIFE) {
-        Ok(life) => Ok(life as u8),
-        Err(unread) => Err(unread),
-    }
 }
 
 /// The numbers of the router's rules, where each is within its limits.
@@ -699,7 +679,7 @@ fn numbers_of(options: &ArgMatches<'_>) -> Result<Numbers, Unread>
     let servents = asked(options, &SERVENTS)?;
     let stage = asked(options, &STAGE)?;
     let out = asked(options, &QUEUE)?;
-    let life = life_of(options)?;
+    let life = asked(options, &LIFE)?;
     let crowd = asked(options, &CROWD)?;
     let steps = asked(options, &STEPS)?;
     Ok(Numbers {
@@ -709,7 +689,7 @@ fn numbers_of(options: &ArgMatches<'_>) -> Result<Numbers, Unread>
         stage,
         out,
         steps,
-        life,
+        life: life as u8,
         crowd,
     })
 }
@@ -723,7 +703,7 @@ struct Shared {
 }
 
 /// What the router shares, and where its counts are asked for, where each number is within its limits.
-fn shared_of(options: &ArgMatches<'_>, port: u16) -> Result<Shared, Unread>
+fn shared_of(options: &ArgMatches<'_>, port: u32) -> Result<Shared, Unread>
     ensures { IsReadAs (λ s. s) (shared_of port (rows_of (found_of options.now))) result }
 {
     let files = asked(options, &FILES)?;
@@ -832,7 +812,7 @@ fn times_of(
 fn serving_of(alloc: Global, options: &ArgMatches<'_>) -> Result<ServeOptions, Unread>
     ensures { IsReadAs (λ s. s) (serving_of (rows_of (found_of options.now))) result }
 {
-    let port = port_of(options)?;
+    let port = asked(options, &PORT)?;
     let accept = accept_of(options)?;
     let workers = asked(options, &WORKERS)?;
     let site = site_of(alloc, options)?;
@@ -844,7 +824,7 @@ fn serving_of(alloc: Global, options: &ArgMatches<'_>) -> Result<ServeOptions, U
     let rates = rates_of(options, accept, numbers.crowd, numbers.stage)?;
     let times = times_of(options, accept, servent)?;
     Ok(ServeOptions {
-        port,
+        port: port as u16,
         accept,
         workers,
         site,

@@ -37,7 +37,6 @@ use gn_threads::RunFault;
 use gn_wire::Guid;
 use gn_words::{Peer, Retry, Servent};
 use std::alloc::{AllocError, Global};
-use std::fmt;
 use std::fmt::{Display, Formatter, Write};
 use std::io::StdinLock;
 use std::net::{Ipv4Addr, Net, SocketAddr, SocketAddrV4, TcpListener, TcpStream};
@@ -45,6 +44,7 @@ use std::random::RandomSource;
 use std::sync::Arc;
 use std::thread::Threads;
 use std::time::{Clock, Duration, SystemTime, UNIX_EPOCH};
+use std::{fmt, io};
 
 /// The line that says that the router listens on this port.
 #[derive(Clone, Copy)]
@@ -179,24 +179,13 @@ fn stop_of<R: Threads + Input<Reader = StdinLock<'static>>>(
     Ok(stop)
 }
 
-/// Looks whether a run can take the second handle of this listener that it needs.
-fn try_second(listener: &TcpListener) -> Result<(), Unmet> {
-    match listener.try_clone() {
-        Ok(_) => Ok(()),
-        Err(why) => Err(Unmet::of(&why)),
-    }
-}
-
 /// A listener at this address, of which a run can take the second handle that it needs.
 fn bound<N: Net<Listener = TcpListener, Stream = TcpStream>>(
     net: &N,
     here: SocketAddr,
-) -> Result<TcpListener, Unmet> {
-    let listener = match net.bind(here) {
-        Ok(listener) => listener,
-        Err(why) => return Err(Unmet::of(&why)),
-    };
-    try_second(&listener)?;
+) -> io::Result<TcpListener> {
+    let listener = net.bind(here)?;
+    let _ = listener.try_clone()?;
     Ok(listener)
 }
 
@@ -216,8 +205,8 @@ pub(crate) fn listen<N: Net<Listener = TcpListener, Stream = TcpStream>>(
 ) -> Result<TcpListener, LinkFault> {
     match bound(net, here) {
         Ok(listener) => Ok(listener),
-        Err(unmet) => {
-            *told = Told::Listen(here, unmet);
+        Err(why) => {
+            *told = Told::Listen(here, Unmet::of(&why));
             Err(LinkFault)
         }
     }
@@ -355,7 +344,12 @@ struct Prepared {
 }
 
 /// What a router of this configuration serves with, once it listens. What the system said of a port, where that fails, stays in `told`.
-fn prepare<R: Host + Input<Reader = StdinLock<'static>> + RandomSource>(
+fn prepare<
+    R: Threads
+        + Net<Listener = TcpListener, Stream = TcpStream>
+        + Input<Reader = StdinLock<'static>>
+        + RandomSource,
+>(
     rt: &R,
     alloc: Global,
     serving: &ServeOptions,
@@ -387,7 +381,7 @@ fn prepare<R: Host + Input<Reader = StdinLock<'static>> + RandomSource>(
 /// Runs the router, writes its history while it runs, and answers who asks for its counts. It is watched as it runs, by `calls`.
 fn run_prepared<
     's,
-    R: Host + Input<Reader = StdinLock<'static>> + RandomSource,
+    R: Host + Input<Reader = StdinLock<'static>>,
     G: Watch + Sync,
     W: Sink + Send,
     F: Sink + Send,

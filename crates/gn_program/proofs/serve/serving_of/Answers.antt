@@ -1,4 +1,4 @@
-use Rattle.std.proofs.Common.{codes}
+use Rattle.std.proofs.Common.{arith, codes}
 use Rattle.clap.specs.Words.{found_of, rows_of}
 use Rattle.gn_rules.specs.Limits.{most_workers}
 use Rattle.gn_words.proofs.OptionLemmas.{accept_within, asked_within, few_links}
@@ -15,3 +15,8 @@ invariant_of-result c =
       many.0,
       c.in_ok-numbers.ensures.within,
     )
+
+pub overflow_cast-result : goal.overflow_cast-result
+overflow_cast-result c =
+    let within = asked_within (codes "port") 1 65535 c.in_ok-port.port (rows_of (found_of c.args.options.now)) c.in_ok-port.ensures in
+    omega (arith, within.1)
