@@ -49,23 +49,24 @@ impl Display for Fault {
     ghost output = { λ fault. Some (fault_text fault) };
 
     fn fmt<W: Write>(&self, f: &mut Formatter<W>) -> fmt::Result {
-        match self {
-            Fault::Input => f.write_str("fault: input failed\n"),
-            Fault::InputTooLarge => f.write_str("fault: input too large\n"),
+        let line = match self {
+            Fault::Input => "fault: input failed\n",
+            Fault::InputTooLarge => "fault: input too large\n",
             Fault::Line(CaptureFault { line, cause }) => {
-                writeln!(f, "fault: line {line}: {}", cause_name(*cause))
+                return writeln!(f, "fault: line {line}: {}", cause_name(*cause));
             }
-            Fault::Output => f.write_str("fault: output failed\n"),
-            Fault::NoMemory => f.write_str("fault: no memory\n"),
-            Fault::HistoryFull => f.write_str("fault: history full\n"),
-            Fault::Listen => f.write_str("fault: listen\n"),
-            Fault::Call(peer) => writeln!(f, "fault: call {peer}"),
-            Fault::Link(link) => writeln!(f, "fault: link {link}"),
-            Fault::StageMissing => f.write_str("fault: stage missing\n"),
-            Fault::Audit(actor) => writeln!(f, "fault: audit {actor}"),
-            Fault::Workers => f.write_str("fault: workers\n"),
-            Fault::NoRandomBytes => f.write_str("fault: no random bytes\n"),
-        }
+            Fault::Output => "fault: output failed\n",
+            Fault::NoMemory => "fault: no memory\n",
+            Fault::HistoryFull => "fault: history full\n",
+            Fault::Listen => "fault: listen\n",
+            Fault::Call(peer) => return writeln!(f, "fault: call {peer}"),
+            Fault::Link(link) => return writeln!(f, "fault: link {link}"),
+            Fault::StageMissing => "fault: stage missing\n",
+            Fault::Audit(actor) => return writeln!(f, "fault: audit {actor}"),
+            Fault::Workers => "fault: workers\n",
+            Fault::NoRandomBytes => "fault: no random bytes\n",
+        };
+        f.write_str(line)
     }
 }
 

@@ -58,6 +58,16 @@ pub(crate) struct Remarks<'a, 'w, R, G> {
     next: Option<(u32, SocketAddr)>,
 }
 
+/// Adds the comment that this value's text is.
+fn say<D: Display + Drop>(
+    alloc: Global,
+    value: D,
+    comments: &mut Comments,
+) -> Result<(), AllocError> {
+    let text = format!(in alloc; "{value}")?;
+    comments.add(text.as_bytes())
+}
+
 impl<'a, 'w, R: Clock + Wait, G> Remarks<'a, 'w, R, G> {
     /// Nothing was said yet.
     pub(crate) fn new(
@@ -110,8 +120,7 @@ impl<'a, 'w, R: Clock + Wait, G> Remarks<'a, 'w, R, G> {
             peer,
             is_called: self.is_called(link, peer),
         };
-        let text = format!(in self.alloc; "{}", neighbour)?;
-        comments.add(text.as_bytes())
+        say(self.alloc, neighbour, comments)
     }
 
     /// Says each link whose peer has come by now, once.
@@ -137,8 +146,7 @@ impl<'a, 'w, R: Clock + Wait, G> Remarks<'a, 'w, R, G> {
         if now.saturating_sub(self.last).as_micros() < BETWEEN {
             return Ok(());
         }
-        let text = format!(in self.alloc; "{}", Moment(now))?;
-        comments.add(text.as_bytes())?;
+        say(self.alloc, Moment(now), comments)?;
         self.last = now;
         Ok(())
     }

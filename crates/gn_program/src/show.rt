@@ -77,20 +77,19 @@ impl Command for Show {
             is_set(options, "json"),
             is_set(options, "stats"),
         );
-        match asked {
-            (false, false, false) => Ok(Show {
-                view: View::Steps(Form::Plain),
-            }),
-            (true, false, false) => Ok(Show {
-                view: View::Steps(Form::Rows),
-            }),
-            (false, true, false) => Ok(Show {
-                view: View::Steps(Form::Json),
-            }),
-            (false, false, true) => Ok(Show { view: View::Stats }),
-            (false, true, true) => Err(Unread::Mistake("--json and --stats aren't taken together")),
-            (true, _, _) => Err(Unread::Mistake("--csv is taken without --json and --stats")),
-        }
+        let view = match asked {
+            (false, false, false) => View::Steps(Form::Plain),
+            (true, false, false) => View::Steps(Form::Rows),
+            (false, true, false) => View::Steps(Form::Json),
+            (false, false, true) => View::Stats,
+            (false, true, true) => {
+                return Err(Unread::Mistake("--json and --stats aren't taken together"));
+            }
+            (true, _, _) => {
+                return Err(Unread::Mistake("--csv is taken without --json and --stats"));
+            }
+        };
+        Ok(Show { view })
     }
 }
 

@@ -1,7 +1,7 @@
 use Rattle.std.proofs.Common.{Bool, List, Option, is_some, subst, ℕ, Global}
 use Rattle.std.specs.declared.net.socket_addr.SocketAddr.{SocketAddr}
 use Rattle.gn_load.specs.Any.{IsJournalledTaken}
-use Rattle.gn_program.specs.Limits.{calls_again, goes_on}
+use Rattle.gn_program.specs.Limits.{goes_on}
 use Rattle.gn_program.specs.Serve.{AskedServe}
 use Rattle.gn_program.proofs.serves.run_prepared.Goals as goal
 

@@ -1,10 +1,8 @@
 use Rattle.std.proofs.Common.{subst, sym}
 use Rattle.gn_rules.specs.Limits.{IsCrew}
-use Rattle.gn_program.specs.Peers.{AreAt}
 use Rattle.gn_program.specs.Serve.{AskedServe}
 use Rattle.gn_program.specs.Serves.{IsServeAnswer, IsServing}
 use Rattle.gn_program.specs.declared.serves.Served.{Served}
-use Rattle.gn_rules.specs.declared.config.Config.{Config}
 use Rattle.gn_program.proofs.ServeLemmas.{ended, unserved, written_itself}
 use Rattle.gn_program.proofs.serves.serve.Goals as goal
 
