@@ -159,7 +159,10 @@ pub fn command_with<
             write_detail(faults, alloc, reading, head, ended.status);
             ended
         }
-        Err(error) => Ended::with(turn_away(error, writer, faults)),
+        Err(error) => {
+            let status = turn_away(error, writer, faults);
+            Ended { status, ran: None }
+        }
     }
 }
 

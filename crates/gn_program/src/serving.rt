@@ -79,11 +79,13 @@ impl Serve {
         let serving = match self {
             Serve::Run(serving) => serving,
             Serve::Config(serving) => {
-                return Ended::with(print_config(alloc, serving, writer, faults));
+                let status = print_config(alloc, serving, writer, faults);
+                return Ended { status, ran: None };
             }
         };
         let Some(id) = id_of(rt, serving.servent) else {
-            return Ended::with(write_fault(faults, Fault::NoRandomBytes));
+            let status = write_fault(faults, Fault::NoRandomBytes);
+            return Ended { status, ran: None };
         };
         if serving.progress {
             return serve_watched(rt, alloc, serving, id, watch, writer, faults);
