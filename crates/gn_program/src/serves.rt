@@ -1,6 +1,6 @@
 //! A router that serves, as a command line asks for it.
 
-ghost use Rattle.std.specs.Prelude.{◌≡◌, ◌⊎◌, ◌*◌, ◌+◌, ◌<◌, ◌≤◌, ℕ, List, false, is_some, length, true, unwrap_or, IfErr, IfNone, IfOk, IfSome};
+ghost use Rattle.std.specs.Prelude.{◌≡◌, ◌⊎◌, ◌*◌, ◌+◌, ◌<◌, ◌≤◌, is_some, length, true, unwrap_or, IfErr, IfNone, IfOk, IfSome};
 ghost use Rattle.std.specs.Option.{IsSomeAnd};
 ghost use Rattle.std.specs.Bool.{then_some};
 ghost use Rattle.std.specs.Duration.{as_nanos};
@@ -31,7 +31,7 @@ use gn_load::{ServeFault, ServeHalted, Taken, Taking};
 use gn_metrics::Desk;
 use gn_report::LinkTally;
 use gn_rules::{Config, Own};
-use gn_service::{Batch, Host, Parting, Pings, Ran, Serve, Serving, Stop, TcpReader, TcpWriter};
+use gn_service::{Batch, Host, Parting, Pings, Ran, Serve, Serving, Stop};
 use gn_tcp::Unmet;
 use gn_threads::RunFault;
 use gn_wire::Guid;
