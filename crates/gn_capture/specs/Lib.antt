@@ -12,3 +12,4 @@ pub mod RoundTrip
 pub mod Steps
 -- Words of the proofs.
 pub mod Known
+pub mod Originated

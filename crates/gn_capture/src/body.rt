@@ -32,11 +32,11 @@ pub(crate) fn read_lines<A: Allocator + Copy>(
     let mut parsed = Vec::new(alloc);
     let mut fields = Vec::new(alloc);
     let mut links = 0;
-    while let Ok((number, text)) = lines.next_line() {
-        match read_numbered(alloc, &mut fields, has_all, links, number, text) {
-            Ok(line) => {
-                links = links_after(links, &line);
-                parsed.push((number, line))?;
+    while let Ok(line) = lines.next_line() {
+        match read_numbered(alloc, &mut fields, has_all, links, &line) {
+            Ok(said) => {
+                links = links_after(links, &said);
+                parsed.push((line.0, said))?;
             }
             Err(refusal) => return Err(refusal),
         }

@@ -15,7 +15,7 @@ use gn_text::{
 use std::alloc::{Allocator, Global};
 
 /// What a capture says: how the router is set up, and what happens to it.
-#[derive(Debug, Drop)]
+#[derive(Drop)]
 pub struct Capture<A: Allocator = Global> {
     pub config: Config,
     /// Each line after the first three with its number, without those that are skipped. Numbers count from 1, skipped

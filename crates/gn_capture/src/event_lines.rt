@@ -11,33 +11,33 @@ use gn_text::{Cause, hex_bytes, is_word, number};
 use std::alloc::Allocator;
 
 /// A line that takes no fields.
-pub(crate) fn alone<T: Drop>(line: T, fields: &[&[u8]]) -> Result<T, Cause>
-    ensures { result ≡ alone_of line (map (λ x. x.now) fields.now) }
+pub(crate) fn alone<T: Drop>(line: T, fields: &[&[u8]]) -> Result<T, LineRefusal>
+    ensures { IsLineRead result (alone_of line (map (λ x. x.now) fields.now)) }
 {
     match fields {
         [] => Ok(line),
-        _ => Err(Cause::Fields),
+        _ => Err(LineRefusal::Fault(Cause::Fields)),
     }
 }
 
 /// A line that makes a link, where so many are made before it.
-pub(crate) fn link_line<T: Drop>(line: T, links: u64, fields: &[&[u8]]) -> Result<T, Cause>
-    ensures { result ≡ link_of line links (map (λ x. x.now) fields.now) }
+pub(crate) fn link_line<T: Drop>(line: T, links: u64, fields: &[&[u8]]) -> Result<T, LineRefusal>
+    ensures { IsLineRead result (link_of line links (map (λ x. x.now) fields.now)) }
 {
     match fields {
-        [] if links == MOST_LINKS as u64 => Err(Cause::Link),
+        [] if links == MOST_LINKS as u64 => Err(LineRefusal::Fault(Cause::Link)),
         [] => Ok(line),
-        _ => Err(Cause::Fields),
+        _ => Err(LineRefusal::Fault(Cause::Fields)),
     }
 }
 
 /// The number of a line that takes one.
-pub(crate) fn number_alone(fields: &[&[u8]]) -> Result<u32, Cause>
-    ensures { result ≡ number_alone (map (λ x. x.now) fields.now) }
+pub(crate) fn number_alone(fields: &[&[u8]]) -> Result<u32, LineRefusal>
+    ensures { IsLineRead result (number_alone (map (λ x. x.now) fields.now)) }
 {
     match fields {
-        [field] => number(field).ok_or(Cause::Field),
-        _ => Err(Cause::Fields),
+        [field] => number(field).ok_or(LineRefusal::Fault(Cause::Field)),
+        _ => Err(LineRefusal::Fault(Cause::Fields)),
     }
 }
 

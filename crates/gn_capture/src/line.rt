@@ -9,7 +9,7 @@ use std::marker::Model;
 
 /// What a line of a capture says, after its three header lines. All events are by actor 0. A capture has many lines, so
 /// each takes few bytes: what is large lies elsewhere.
-#[derive(Debug, Drop)]
+#[derive(Drop)]
 pub enum Line<A: Allocator = Global> {
     /// `join`: a new link that needs no greeting.
     Join,
@@ -32,7 +32,7 @@ pub enum Line<A: Allocator = Global> {
 }
 
 /// The bytes of a piece.
-#[derive(Debug, Drop)]
+#[derive(Drop)]
 pub struct PieceBytes<A: Allocator = Global> {
     bytes: Box<Vec<u8, A>, A>,
 }
@@ -63,7 +63,7 @@ impl<A: Allocator> PieceBytes<A> {
 }
 
 /// A Ping or a Query that the local servent sends.
-#[derive(Debug, Drop)]
+#[derive(Drop)]
 pub struct LocalRequest<A: Allocator = Global> {
     descriptor: Box<Descriptor<A>, A>,
 }

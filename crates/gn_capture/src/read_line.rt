@@ -1,27 +1,18 @@
 //! One line of a capture.
 
-ghost use Rattle.std.specs.Prelude.{Ok, map};
-ghost use Rattle.gn_capture.specs.declared.line.Line.TheVariants.{Originate};
+ghost use Rattle.std.specs.Prelude.{map};
 ghost use Rattle.gn_text.specs.Lines.{fields_of};
 ghost use Rattle.gn_capture.specs.CaptureLines.{fields_say, line_in, line_of};
 ghost use Rattle.gn_text.specs.Faults.{IsRead};
 ghost use Rattle.gn_capture.specs.Outcomes.{IsLineRead, numbered};
 
 use crate::event_lines::{alone, data_line, is_route_all, link_line, number_alone};
-use crate::line::{Line, LocalRequest};
+use crate::line::Line;
 use crate::query_line::{ping_line, query_line};
 use crate::refusal::LineRefusal;
 use gn_numbers::{LineWord, line_word_named};
-use gn_text::{CaptureRefusal, Cause, fields_into};
-use gn_wire::Descriptor;
+use gn_text::{CaptureRefusal, Cause, NumberedLine, fields_into};
 use std::alloc::Allocator;
-
-/// The line of which the local servent sends a descriptor.
-fn request_line<A: Allocator>(alloc: A, descriptor: Descriptor<A>) -> Result<Line<A>, LineRefusal>
-    ensures { IsLineRead result (Ok (Originate descriptor)) }
-{
-    Ok(Line::Originate(LocalRequest::of(alloc, descriptor)?))
-}
 
 /// What the fields after a word say, where so many links are made before them.
 fn read_fields<A: Allocator + Copy>(
@@ -33,15 +24,15 @@ fn read_fields<A: Allocator + Copy>(
     ensures { IsLineRead result (fields_say links (map (λ x. x.now) fields.now) word) }
 {
     match word {
-        LineWord::Join => Ok(link_line(Line::Join, links, fields)?),
-        LineWord::Open => Ok(link_line(Line::Greeted, links, fields)?),
+        LineWord::Join => link_line(Line::Join, links, fields),
+        LineWord::Open => link_line(Line::Greeted, links, fields),
         LineWord::Data => data_line(alloc, links, fields),
         LineWord::Route => Ok(Line::Route(number_alone(fields)?)),
         LineWord::Take => Ok(Line::Take(number_alone(fields)?)),
         LineWord::Close => Ok(Line::Close(number_alone(fields)?)),
-        LineWord::Ping => request_line(alloc, ping_line(alloc, fields)?),
-        LineWord::Query => request_line(alloc, query_line(alloc, fields)?),
-        LineWord::Stats => Ok(alone(Line::Stats, fields)?),
+        LineWord::Ping => ping_line(alloc, fields),
+        LineWord::Query => query_line(alloc, fields),
+        LineWord::Stats => alone(Line::Stats, fields),
     }
 }
 
@@ -77,17 +68,17 @@ fn read_line<A: Allocator + Copy>(
     read_common(alloc, links, fields)
 }
 
-/// What line `number` says, whose fields are put in place of those of another line.
+/// What a line says, whose fields are put in place of those of another line.
 pub(crate) fn read_numbered<'a, A: Allocator + Copy>(
     alloc: A,
     fields: &mut Vec<&'a [u8], A>,
     has_all: bool,
     links: u64,
-    number: u64,
-    text: &'a [u8],
+    line: &NumberedLine<'a>,
 ) -> Result<Line<A>, CaptureRefusal>
-    ensures { IsRead (λ line. line) result (numbered number (line_in has_all links (fields_of text.now))) }
+    ensures { IsRead (λ said. said) result (numbered line.now.0 (line_in has_all links (fields_of line.now.1.now))) }
 {
+    let (number, text) = *line;
     fields.clear();
     fields_into(text, fields)?;
     match read_line(alloc, has_all, links, fields.as_slice()) {

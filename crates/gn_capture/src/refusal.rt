@@ -4,7 +4,7 @@ use gn_text::{CaptureRefusal, Cause};
 use std::alloc::{AllocError, AllocFailed};
 
 /// Why a line isn't read, before its number is known.
-#[derive(Clone, Copy, Debug, PartialEq, Eq)]
+#[derive(Clone, Copy)]
 pub(crate) enum LineRefusal {
     Fault(Cause),
     NoMemory,
@@ -44,16 +44,5 @@ impl<T: Drop> From<AllocFailed<T>> for LineRefusal {
 
     fn from(_error: AllocFailed<T>) -> LineRefusal {
         LineRefusal::NoMemory
-    }
-}
-
-impl From<Cause> for LineRefusal {
-    ghost use Rattle.std.specs.Prelude.{◌≡◌};
-    ghost use Rattle.gn_capture.specs.declared.refusal.LineRefusal.TheVariants.{Fault};
-
-    ghost from_gives = { λ cause refusal. refusal ≡ Fault cause };
-
-    fn from(cause: Cause) -> LineRefusal {
-        LineRefusal::Fault(cause)
     }
 }
