@@ -11,31 +11,11 @@ ghost use Rattle.gn_capture.specs.Histories.{IsNextOf, ended, history_of, histor
 use crate::step::read_step;
 use gn_rules::{Config, Step};
 use gn_text::{
-    CaptureRefusal, Cause, NumberedLine, NumberedLines, Text, fields, fields_in, fields_into,
-    is_word, read_header,
+    CaptureRefusal, Cause, NumberedLine, NumberedLines, Text, fields, fields_in, is_word,
+    read_header,
 };
 use std::alloc::{AllocError, Allocator, Global};
 use std::marker::Model;
-
-/// The step of a line, or `None` where the line is `end`. Its fields are put in place of those of another line.
-fn read_line<'a, A: Allocator + Copy>(
-    alloc: A,
-    fields: &mut Vec<&'a [u8], A>,
-    line: &NumberedLine<'a>,
-) -> Result<Option<Step<A>>, CaptureRefusal>
-    ensures { IsRead (λ x. x) result (line_parsed (line_seen line.now)) }
-{
-    let (number, line) = *line;
-    if is_word(line, b"end") {
-        return Ok(None);
-    }
-    fields.clear();
-    fields_into(line, fields)?;
-    match read_step(alloc, fields.as_slice())? {
-        Some(step) => Ok(Some(step)),
-        None => Err(CaptureRefusal::at(number, Cause::Field)),
-    }
-}
 
 /// So many fields of a line are looked at where they are put; of a line that has more a list is made.
 const FEW: usize = 16;
@@ -70,12 +50,10 @@ pub fn read_history_line<A: Allocator + Copy>(
 
 /// The steps of a history's text, one after another. They are read as they are asked for, and nothing is kept of those
 /// that were given.
-#[derive(Debug, Drop)]
+#[derive(Drop)]
 pub struct HistorySteps<'a, A: Allocator = Global> {
     alloc: A,
     lines: NumberedLines<'a>,
-    /// The fields of the line that was read last.
-    fields: Vec<&'a [u8], A>,
 }
 
 impl<'a, A: Allocator> Model for HistorySteps<'a, A> {
@@ -110,7 +88,7 @@ impl<'a, A: Allocator + Copy> HistorySteps<'a, A> {
     {
         let mut left = self.lines.copy();
         match left.next_line() {
-            Ok(line) => match read_line(self.alloc, &mut self.fields, &line)? {
+            Ok(line) => match read_history_line(self.alloc, &line)? {
                 Some(step) => {
                     self.lines = left;
                     Ok(Some(step))
@@ -135,12 +113,7 @@ pub fn open_history<'a, A: Allocator + Copy>(
 {
     let mut lines = NumberedLines::of(text);
     let config = read_header(alloc, Text::History, &mut lines)?;
-    let steps = HistorySteps {
-        alloc,
-        lines,
-        fields: Vec::new(alloc),
-    };
-    Ok((config, steps))
+    Ok((config, HistorySteps { alloc, lines }))
 }
 
 /// The steps that are left of a history, all of them.

@@ -102,7 +102,7 @@ const GROWTHS: [u64; 5] = [
     // The header; one list of fields for all lines, the list of four lines, and the piece, which is shared from then on.
     9,
     // The header, each step, and the list of four steps.
-    13,
+    11,
     // 376 bytes where six are full: the first title fills 24, and that doubles up to 384.
     5,
 ];
@@ -298,10 +298,9 @@ impl<A: Allocator + Copy> Turns<A> for ReadsStep {
     }
 }
 
-/// The growths of each step of the history, and of its end. The first is read into a list of fields that grows to eight, in
-/// which all later lines have room; then there are the Ping, and beside the list of two sends the Pong, whose payload is
-/// shared, and the Ping.
-const STEPS: [u64; 5] = [2, 0, 1, 4, 0];
+/// The growths of each step of the history, and of its end: those of the Ping, and beside the list of two sends those of the
+/// Pong, whose payload is shared, and of the Ping. The fields of a line take none.
+const STEPS: [u64; 5] = [0, 0, 1, 4, 0];
 
 /// The growths that reading each step meets, and its end.
 fn growths_of_steps<A: Allocator + Copy>(heap: &Heap, alloc: A) -> Result<[u64; 5], Fail> {
