@@ -9,3 +9,4 @@ pub mod ParsedLemmas
 pub mod PartLemmas
 pub mod PartsLemmas
 pub mod SettingsLemmas
+pub mod WholeLemmas

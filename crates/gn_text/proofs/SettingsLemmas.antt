@@ -1,5 +1,5 @@
 -- Numbers within their limits, and fields that are too few or too many.
-use Rattle.std.proofs.Common.{◌≡◌, ◌<◌, ◌≤◌, nat_le, ℕ, List, [], ◌∷◌, length, refl, Bool, true, false, if◌then◌else◌, arith, Some, None}
+use Rattle.std.proofs.Common.{◌≡◌, ◌<◌, ◌≤◌, nat_le, ℕ, List, [], ◌∷◌, length, refl, Bool, true, false, if◌then◌else◌, arith, Option, Some, None}
 use Rattle.std.proofs.lemmas.Bool.Decides.{nat_tests}
 use Rattle.gn_rules.specs.Limits.{AreWithin, IsWithin, most}
 use Rattle.gn_rules.specs.Settings.{IsFirstOut, IsIn}
@@ -7,7 +7,7 @@ use Rattle.gn_rules.specs.declared.config.Config.{Config}
 use Rattle.gn_rules.specs.declared.config.Field.{Field}
 use Rattle.gn_rules.specs.declared.config.Field.TheVariants.{Neighbours, Seen, Servents, Stage, Out, Steps, Crowd}
 use Rattle.gn_rules.specs.declared.limits.Numbers.{Numbers}
-use Rattle.gn_text.specs.Settings.{is_within, are_within, numbers_parsed, numbers_within, servent_parsed}
+use Rattle.gn_text.specs.Settings.{is_within, are_within, each_within, numbers_parsed, numbers_within, servent_parsed}
 use Rattle.gn_numbers.specs.declared.version.Version.{Version}
 use Rattle.gn_text.proofs.ConfigLemmas.{passed}
 
@@ -75,3 +75,13 @@ few_fields version (a ∷ b ∷ c ∷ []) h = refl
 few_fields version (a ∷ b ∷ c ∷ d ∷ []) h = refl
 few_fields version (a ∷ b ∷ c ∷ d ∷ e ∷ []) h = refl
 few_fields version (a ∷ b ∷ c ∷ d ∷ e ∷ f ∷ more) h = absurd (omega arith)
+
+-- where the numbers after the sixth are missing there are none
+pub later_missing : (k n m t w h : Option ℕ) → None ≡ each_within k n m t w h None
+later_missing None n m t w h = refl
+later_missing (Some k) None m t w h = refl
+later_missing (Some k) (Some n) None t w h = refl
+later_missing (Some k) (Some n) (Some m) None w h = refl
+later_missing (Some k) (Some n) (Some m) (Some t) None h = refl
+later_missing (Some k) (Some n) (Some m) (Some t) (Some w) None = refl
+later_missing (Some k) (Some n) (Some m) (Some t) (Some w) (Some h) = refl

@@ -3,12 +3,13 @@
 ghost use Rattle.std.specs.Prelude.{◌≡◌, ◌++◌, length, take, OnOk, OnErr};
 ghost use Rattle.gn_rules.specs.Limits.{AreWithin};
 ghost use Rattle.gn_text.specs.Faults.{IsRead};
-ghost use Rattle.gn_text.specs.Header.{config_from, header_of, header_seen, header_text, own_from, title_text};
+ghost use Rattle.gn_text.specs.Header.{config_from, header_of, header_seen, header_text, own_from};
 
 use crate::fault::CaptureRefusal;
 use crate::line::fields;
 use crate::parsed::NumberedLines;
-use crate::settings::{read_config, read_own, write_settings};
+use crate::part::{Part, push_parts};
+use crate::settings::{push_config, push_own, read_config, read_own};
 use gn_numbers::{Cause, Text, Version, least_version, read_version, title};
 use gn_rules::{Config, Numbers};
 use gn_wire::whole_or_none;
@@ -27,10 +28,13 @@ fn read_own_line<A: Allocator + Copy>(
     ensures after { lines.new.after ≡ lines.old.after }
 {
     match lines.next_line() {
-        Ok((number, line)) => match read_own(alloc, &fields(alloc, line)?)? {
-            Some(own) => Ok(Config::with(numbers, own)),
-            None => Err(CaptureRefusal::at(number, Cause::Own)),
-        },
+        Ok((number, line)) => {
+            let own = read_own(alloc, &fields(alloc, line)?)?;
+            match own {
+                Some(own) => Ok(Config::with(numbers, own)),
+                None => Err(CaptureRefusal::at(number, Cause::Own)),
+            }
+        }
         Err(after) => Err(CaptureRefusal::at(after, Cause::Own)),
     }
 }
@@ -48,10 +52,13 @@ pub fn read_settings<A: Allocator + Copy>(
     ensures after { lines.new.after ≡ lines.old.after }
 {
     match lines.next_line() {
-        Ok((number, line)) => match read_config(version, &fields(alloc, line)?) {
-            Some(numbers) => read_own_line(alloc, numbers, lines),
-            None => Err(CaptureRefusal::at(number, Cause::Config)),
-        },
+        Ok((number, line)) => {
+            let numbers = read_config(version, &fields(alloc, line)?);
+            match numbers {
+                Some(numbers) => read_own_line(alloc, numbers, lines),
+                None => Err(CaptureRefusal::at(number, Cause::Config)),
+            }
+        }
         Err(after) => Err(CaptureRefusal::at(after, Cause::Config)),
     }
 }
@@ -99,20 +106,6 @@ pub fn read_header<A: Allocator + Copy>(
     }
 }
 
-/// Appends the first line. An `Err` is out of memory, and may leave a part of it.
-#[tactic(auto, using(crate::proofs::KeptLemmas::kept))]
-fn write_title<B: Allocator>(
-    out: &mut Vec<u8, B>,
-    text: Text,
-    version: Version,
-) -> Result<(), AllocError>
-    ensures ok { OnOk result (out.new.items ≡ out.old.items ++ title_text text version) }
-    ensures err { OnErr result (take (length out.old.items) out.new.items ≡ out.old.items) }
-{
-    out.extend_from_slice(title(text, version).as_bytes())?;
-    out.extend_from_slice(b"\n")
-}
-
 /// Appends the three first lines. An `Err` is out of memory, and may leave a part of it.
 #[tactic(auto, using(crate::proofs::KeptLemmas::kept))]
 fn write_header<B: Allocator>(
@@ -123,8 +116,10 @@ fn write_header<B: Allocator>(
     ensures ok { OnOk result (out.new.items ≡ out.old.items ++ header_text text config.now) }
     ensures err { OnErr result (take (length out.old.items) out.new.items ≡ out.old.items) }
 {
-    write_title(out, text, least_version(&config.numbers))?;
-    write_settings(out, config)
+    let title = title(text, least_version(&config.numbers));
+    push_parts(out, &[Part::Word(title.as_bytes()), Part::Word(b"\n")])?;
+    push_config(out, &config.numbers)?;
+    push_own(out, &config.own)
 }
 
 /// Appends the lines that a text of a configuration begins with: the title of the least version that can say it, its `config`

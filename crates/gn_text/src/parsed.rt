@@ -11,7 +11,7 @@ pub type NumberedLine<'a> = (u64, &'a [u8]);
 
 /// The lines of a text that say something, one after another. They are found as they are asked for, and nothing is kept
 /// of those that were given.
-#[derive(Debug, Drop)]
+#[derive(Drop)]
 pub struct NumberedLines<'a> {
     /// What of the text is left.
     text: &'a [u8],
