@@ -1,5 +1,6 @@
 pub mod ConfigLemmas
 pub mod CopiedLemmas
+pub mod CountLemmas
 pub mod DigitLemmas
 pub mod FirstLines
 pub mod HeaderLemmas

@@ -1,17 +1,20 @@
 -- The first lines of a text, put together.
-use Rattle.std.proofs.Common.{◌≡◌, ℕ, List, ◌++◌, codes, decimal, take, slice_index, sym, ap, ◌∙◌, append_assoc, append-nil, Result, Ok, Err}
+use Rattle.std.proofs.Common.{◌≡◌, ℕ, List, ◌++◌, codes, decimal, length, take, slice_index, sym, ap, ◌∙◌, append_assoc, append-nil, Result, Ok, Err}
 use Rattle.std.specs.Prelude.{OnOk}
 use Rattle.hex.specs.Hex.{encode_lower}
 use Rattle.gn_rules.specs.declared.config.Own.{Own}
 use Rattle.gn_rules.specs.declared.limits.Numbers.{Numbers}
 use Rattle.gn_numbers.specs.declared.version.Version.{Version}
 use Rattle.gn_numbers.specs.declared.version.Version.TheVariants.{First, Second, Third}
+use Rattle.gn_numbers.specs.declared.titles.Text.{Text}
+use Rattle.gn_numbers.specs.Names.{title_of}
 use Rattle.gn_numbers.specs.Versions.{later_text, version_for}
+use Rattle.gn_text.specs.Header.{title_text}
 use Rattle.gn_text.specs.declared.part.Part.{Part}
 use Rattle.gn_text.specs.Parts.{config_parts, parts_text}
 use Rattle.gn_text.specs.Addresses.{ip_text}
 use Rattle.gn_text.specs.Settings.{field_text, own_text, six_text}
-use Rattle.gn_text.proofs.KeptLemmas.{two_parts}
+use Rattle.gn_text.proofs.KeptLemmas.{begins, two_parts}
 
 -- the parts of the line `config`, by version
 pub record AreParts (n : Numbers) (parts : List Part) : Type 0 where
@@ -78,6 +81,12 @@ pub config_put : (n : Numbers) (parts : List Part) (version : Version) (count : 
 config_put n parts version count are least counted =
     ap (λ (k : ℕ). parts_text (take k parts)) (counted ∙ ap config_parts least) ∙ of_version n parts (version_for n) are
 
+-- the title is the one of the least version
+pub title_put : (text : Text) (version least : Version) (old new letters name : List ℕ) → new ≡ old ++ (letters ++ codes "\n") → letters ≡ name
+    → name ≡ title_of text version → version ≡ least → new ≡ old ++ title_text text least
+title_put text version least old new letters name first same is of =
+    first ∙ ap (λ (xs : List ℕ). old ++ (xs ++ codes "\n")) (same ∙ is ∙ ap (title_of text) of)
+
 -- the title, the line `config` and the line `own` are appended one after the other
 pub header_put : {X E : Type 0} (r : Result X E) (old t1 t2 new title config own : List ℕ) → t1 ≡ old ++ title → t2 ≡ t1 ++ config
     → OnOk r (new ≡ t2 ++ (codes "\n" ++ own)) → OnOk r (new ≡ old ++ (title ++ ((config ++ codes "\n") ++ own)))
@@ -91,3 +100,7 @@ header_put (Err e) old t1 t2 new title config own first second last = _
 pub appended : {X E : Type 0} (r : Result X E) (old new a b : List ℕ) → OnOk r (new ≡ old ++ a) → a ≡ b → OnOk r (new ≡ old ++ b)
 appended (Ok x) old new a b is same = is ∙ ap (λ (xs : List ℕ). old ++ xs) same
 appended (Err e) old new a b is same = _
+
+-- what failed and changed nothing begins with what the longer text was made of
+pub still_begins : (old more now new : List ℕ) → now ≡ old ++ more → new ≡ now → take (length old) new ≡ old
+still_begins old more now new is same = begins old more new (same ∙ is)

@@ -1,29 +1,14 @@
 //! Events.
 #![tactic(auto, using(crate::proofs::KeptLemmas::kept))]
 
-ghost use Rattle.std.specs.Prelude.{◌≡◌, ◌++◌, codes, length, take, OnOk, OnErr};
-ghost use Rattle.gn_text.specs.Settings.{field_text};
-ghost use Rattle.gn_text.specs.Steps.{event_rest, event_text, packet_text};
+ghost use Rattle.std.specs.Prelude.{◌≡◌, ◌++◌, length, take, OnOk, OnErr};
+ghost use Rattle.gn_text.specs.Steps.{event_rest, event_text};
 
 use crate::packet::write_packet_field;
 use crate::push::write_number;
 use gn_numbers::event_name;
 use gn_rules::Event;
-use gn_wire::Descriptor;
 use std::alloc::{AllocError, Allocator};
-
-/// Writes which connection admits which descriptor behind what stands there. An `Err` is out of memory, and may leave a part of it.
-fn write_admission<A: Allocator, B: Allocator>(
-    out: &mut Vec<u8, B>,
-    c: u32,
-    packet: &Descriptor<A>,
-) -> Result<(), AllocError>
-    ensures ok { OnOk result (out.new.items ≡ out.old.items ++ (field_text c ++ codes " " ++ packet_text packet.now)) }
-    ensures err { OnErr result (take (length out.old.items) out.new.items ≡ out.old.items) }
-{
-    write_number(out, c)?;
-    write_packet_field(out, packet)
-}
 
 /// Writes what stands behind the word of an event. An `Err` is out of memory, and may leave a part of it.
 fn write_rest<A: Allocator, B: Allocator>(
@@ -38,7 +23,10 @@ fn write_rest<A: Allocator, B: Allocator>(
         Event::Close(number) | Event::Route(number) | Event::Take(number) => {
             write_number(out, *number)
         }
-        Event::Admit(c, packet) => write_admission(out, *c, packet),
+        Event::Admit(c, packet) => {
+            write_number(out, *c)?;
+            write_packet_field(out, packet)
+        }
         Event::Originate(packet) => write_packet_field(out, packet),
     }
 }

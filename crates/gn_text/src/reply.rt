@@ -1,14 +1,13 @@
 //! Replies.
 #![tactic(auto, using(crate::proofs::KeptLemmas::kept))]
 
-ghost use Rattle.std.specs.Prelude.{◌≡◌, ◌++◌, codes, length, take, OnOk, OnErr};
-ghost use Rattle.gn_numbers.specs.Names.{place_name};
-ghost use Rattle.gn_text.specs.Steps.{reply_name, reply_rest, reply_text, sends_text};
+ghost use Rattle.std.specs.Prelude.{◌≡◌, ◌++◌, length, take, OnOk, OnErr};
+ghost use Rattle.gn_text.specs.Steps.{reply_name, reply_rest, reply_text};
 
 use crate::packet::{write_packet_field, write_sends};
 use crate::push::{write_field, write_number};
 use gn_numbers::{counter_name, place_name, reason_name};
-use gn_rules::{Counter, Reply, Sending};
+use gn_rules::{Counter, Reply};
 use gn_wire::whole_or_none;
 use std::alloc::{AllocError, Allocator};
 
@@ -22,20 +21,6 @@ fn reply_name<A: Allocator>(reply: &Reply<A>) -> &'static str
     }
 }
 
-/// Writes where a descriptor was routed behind what stands there. An `Err` is out of memory, and may leave a part of it.
-fn write_routed<A: Allocator, B: Allocator>(
-    out: &mut Vec<u8, B>,
-    sends: &[Sending<A>],
-    local: bool,
-) -> Result<(), AllocError>
-    ensures ok { OnOk result (out.new.items
-        ≡ out.old.items ++ (codes " " ++ place_name local ++ sends_text sends.now)) }
-    ensures err { OnErr result (take (length out.old.items) out.new.items ≡ out.old.items) }
-{
-    write_field(out, place_name(local).as_bytes())?;
-    write_sends(out, sends)
-}
-
 /// Writes what stands behind the word of a reply. An `Err` is out of memory, and may leave a part of it.
 fn write_rest<A: Allocator, B: Allocator>(
     out: &mut Vec<u8, B>,
@@ -45,7 +30,10 @@ fn write_rest<A: Allocator, B: Allocator>(
     ensures err { OnErr result (take (length out.old.items) out.new.items ≡ out.old.items) }
 {
     match reply {
-        Reply::Routed { sends, local } => write_routed(out, sends.as_slice(), *local),
+        Reply::Routed { sends, local } => {
+            write_field(out, place_name(*local).as_bytes())?;
+            write_sends(out, sends.as_slice())
+        }
         Reply::Dropped(reason) => write_field(out, reason_name(*reason).as_bytes()),
         Reply::Taken(packet) => write_packet_field(out, packet),
         Reply::Sent(sends) => write_sends(out, sends.as_slice()),

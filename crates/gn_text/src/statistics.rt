@@ -2,35 +2,15 @@
 #![tactic(auto, using(crate::proofs::KeptLemmas::kept))]
 
 ghost use Rattle.std.specs.Prelude.{◌≡◌, ◌++◌, length, take, OnOk, OnErr};
-ghost use Rattle.gn_text.specs.Statistics.{count_text, counts_text, stats_text};
+ghost use Rattle.gn_text.specs.Statistics.{counts_text, stats_text};
 
-use crate::part::{Part, push_parts};
+use crate::push::{write_field, write_number};
 use gn_numbers::counter_name;
 use gn_rules::{Counter, Stats};
 use gn_wire::whole_or_none;
 use std::alloc::{AllocError, Allocator};
 
-/// Appends a counter's word and its number. An `Err` is out of memory, and changes nothing.
-fn push_count<B: Allocator>(
-    out: &mut Vec<u8, B>,
-    stats: &Stats,
-    counter: Counter,
-) -> Result<(), AllocError>
-    ensures ok { OnOk result (out.new.items ≡ out.old.items ++ count_text stats.now counter) }
-    ensures err { OnErr result (out.new.items ≡ out.old.items) }
-{
-    push_parts(
-        out,
-        &[
-            Part::Word(b" "),
-            Part::Word(counter_name(counter).as_bytes()),
-            Part::Word(b" "),
-            Part::Number(stats.get(counter)),
-        ],
-    )
-}
-
-/// Appends these counters, in order. An `Err` is out of memory, and may leave a part of it.
+/// Appends the names and the numbers of these counters, in order. An `Err` is out of memory, and may leave a part of it.
 fn write_counts<B: Allocator>(
     out: &mut Vec<u8, B>,
     stats: &Stats,
@@ -40,7 +20,8 @@ fn write_counts<B: Allocator>(
     ensures err { OnErr result (take (length out.old.items) out.new.items ≡ out.old.items) }
 {
     for counter in counters {
-        push_count(out, stats, *counter)?;
+        write_field(out, counter_name(*counter).as_bytes())?;
+        write_number(out, stats.get(*counter))?;
     }
     Ok(())
 }

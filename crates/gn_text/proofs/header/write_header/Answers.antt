@@ -1,10 +1,8 @@
-use Rattle.std.proofs.Common.{◌≡◌, ◌++◌, List, ap, codes, ◌∙◌, ℕ}
-use Rattle.gn_numbers.specs.Names.{title_of}
 use Rattle.gn_numbers.specs.Versions.{version_for}
 use Rattle.gn_text.specs.Header.{title_text}
 use Rattle.gn_text.specs.Settings.{own_text}
-use Rattle.gn_text.proofs.KeptLemmas.{begins, on_error, part_unchanged, same_kept, two_parts}
-use Rattle.gn_text.proofs.WholeLemmas.{header_put}
+use Rattle.gn_text.proofs.KeptLemmas.{on_error, part_unchanged, same_kept, two_parts}
+use Rattle.gn_text.proofs.WholeLemmas.{header_put, still_begins, title_put}
 use Rattle.gn_text.proofs.header.write_header.Goals as goal
 
 pub returns-in_err-push_parts-clause-err : goal.returns-in_err-push_parts-clause-err
@@ -15,7 +13,7 @@ returns-in_err-push_parts-clause-err g c =
 pub returns-in_err-push_config-clause-err : goal.returns-in_err-push_config-clause-err
 returns-in_err-push_config-clause-err g c =
     on_error c.from_residual-in_err-push_config.result
-    (begins c.args.out.now.items _ c.push_config.new.out.items (c.in_err-push_config.ensures.err ∙ c.in_ok-push_parts.ensures.ok))
+    (still_begins c.args.out.now.items _ c.push_parts.new.out.items c.push_config.new.out.items c.in_ok-push_parts.ensures.ok c.in_err-push_config.ensures.err)
 
 pub returns-clause-err : goal.returns-clause-err
 returns-clause-err g c =
@@ -24,10 +22,8 @@ returns-clause-err g c =
 
 pub returns-clause-ok : goal.returns-clause-ok
 returns-clause-ok g c =
-    let version = c.least_version.ensures in
-    let title : c.as_bytes.result.now ≡ title_of c.args.text (version_for c.args.config.now.numbers) =
-    c.as_bytes.ensures.value ∙ c.title-title.ensures ∙ ap (title_of c.args.text) version in
     header_put c.push_own.result c.args.out.now.items c.push_parts.new.out.items c.push_config.new.out.items c.push_own.new.out.items
     (title_text c.args.text (version_for c.args.config.now.numbers)) _ (own_text c.args.config.now.own)
-    (c.in_ok-push_parts.ensures.ok ∙ ap (λ (name : List ℕ). c.args.out.now.items ++ (name ++ codes "\n")) title)
+    (title_put c.args.text c.least_version.result (version_for c.args.config.now.numbers) c.args.out.now.items c.push_parts.new.out.items
+    c.as_bytes.result.now c.title-title.result.now c.in_ok-push_parts.ensures.ok c.as_bytes.ensures.value c.title-title.ensures c.least_version.ensures)
     c.in_ok-push_config.ensures.ok c.push_own.ensures.ok

@@ -1,5 +1,5 @@
-use Rattle.std.proofs.Common.{◌∙◌}
-use Rattle.gn_text.proofs.KeptLemmas.{begins, kept_before, on_error, part_bytes_kept, same_kept, two_parts}
+use Rattle.gn_text.proofs.KeptLemmas.{kept_before, on_error, part_bytes_kept, same_kept, two_parts}
+use Rattle.gn_text.proofs.WholeLemmas.{still_begins}
 use Rattle.gn_text.proofs.step.write_step.Goals as goal
 
 pub returns-in_err-push_number-clause-err : goal.returns-in_err-push_number-clause-err
@@ -10,7 +10,7 @@ returns-in_err-push_number-clause-err g c =
 pub returns-in_err-push-clause-err : goal.returns-in_err-push-clause-err
 returns-in_err-push-clause-err g c =
     on_error c.from_residual-in_err-push.result
-    (begins c.args.out.now.items _ c.push.new.self.items (c.in_err-push.ensures.items ∙ c.in_ok-push_number.ensures.ok))
+    (still_begins c.args.out.now.items _ c.push_number.new.out.items c.push.new.self.items c.in_ok-push_number.ensures.ok c.in_err-push.ensures.items)
 
 pub returns-in_err-write_event-clause-err : goal.returns-in_err-write_event-clause-err
 returns-in_err-write_event-clause-err g c =
@@ -23,7 +23,7 @@ returns-in_err-extend_from_slice-clause-err g c =
     let two = two_parts c.args.out.now.items c.push_number.new.out.items c.push.new.self.items _ _ c.in_ok-push_number.ensures.ok c.in_ok-push.ensures.items in
     let three = two_parts c.args.out.now.items c.push.new.self.items c.write_event.new.out.items _ _ two c.in_ok-write_event.ensures.ok in
     on_error c.from_residual-in_err-extend_from_slice.result
-    (begins c.args.out.now.items _ c.extend_from_slice.new.self.items (c.in_err-extend_from_slice.ensures.items ∙ three))
+    (still_begins c.args.out.now.items _ c.write_event.new.out.items c.extend_from_slice.new.self.items three c.in_err-extend_from_slice.ensures.items)
 
 pub returns-in_err-write_reply-clause-err : goal.returns-in_err-write_reply-clause-err
 returns-in_err-write_reply-clause-err g c =
