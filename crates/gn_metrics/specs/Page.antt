@@ -1,5 +1,6 @@
 -- The page of the counts.
 use Rattle.std.specs.Prelude.{ℕ, List, ◌++◌, codes, decimal}
+use Rattle.std.proofs.Common.{Bor}
 use Rattle.std.specs.List.{flat_map}
 use Rattle.gn_rules.specs.declared.statistics.Counter.{Counter}
 use Rattle.gn_rules.specs.Statistics.{counters}
@@ -43,6 +44,10 @@ row_name row = row.name.now ++ row.ending.now
 -- its three lines
 abbrev pub row_text : Row → List ℕ
 row_text row = number_text (row_name row) row.kind.now row.help.now row.value
+
+-- pieces of a text, in order
+abbrev pub pieces_text : List (Bor (List ℕ)) → List ℕ
+pieces_text pieces = flat_map (λ piece. piece.now) pieces
 
 -- those of some rows, in order
 abbrev pub rows_text : List Row → List ℕ

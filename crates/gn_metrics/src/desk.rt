@@ -20,7 +20,7 @@ use std::time::{Clock, Duration};
 const REQUEST: usize = 4_096;
 
 /// What is read of a caller, and how much at most waits to be sent.
-const CONFIG: Config = Config {
+static CONFIG: Config = Config {
     limits: Limits {
         max_head_len: REQUEST,
         max_extensions_len: 0,
@@ -64,27 +64,26 @@ impl Desk {
     }
 
     /// Answers a caller. What it does wrong ends its connection, and nothing else.
-    fn answer(&self, alloc: Global, stream: &TcpStream, scrape: &mut Scrape<'_>) {
+    fn answer(&self, stream: &TcpStream, scrape: &mut Scrape<'_>) {
         let look = Some(Duration::from_millis(LOOK));
         if stream.set_read_timeout(look).is_err() || stream.set_write_timeout(look).is_err() {
             return;
         }
-        let mut connection = Connection::new(alloc, self.keys, CONFIG);
+        let mut connection = Connection::new(scrape.alloc, self.keys, CONFIG);
         let mut reader = Patient::new(stream, &self.is_over);
         let mut writer = stream;
         let _ = serve(&mut connection, scrape, &mut reader, &mut writer);
     }
 
     /// Answers one caller after another until the run is over. Where nobody can be accepted it looks again after a while.
-    fn run<R: Wait + Clock>(&self, rt: &R, alloc: Global, meters: &Meters) {
-        let mut scrape = Scrape { alloc, meters };
+    fn run<R: Wait + Clock>(&self, rt: &R, mut scrape: Scrape<'_>) {
         for _ in rt.forever() {
             let accepted = self.listener.accept();
             if self.is_over.load(Ordering::SeqCst) {
                 return;
             }
             match accepted {
-                Ok((stream, _)) => self.answer(alloc, &stream, &mut scrape),
+                Ok((stream, _)) => self.answer(&stream, &mut scrape),
                 Err(_) => thread::sleep(rt, Duration::from_millis(LOOK)),
             }
         }
@@ -114,7 +113,7 @@ impl Desk {
             |scope| -> T
                 requires { F.pre body }
                 ensures { F.post body result }
-            { self.within(rt, scope, alloc, meters, body) },
+            { self.within(rt, scope, Scrape { alloc, meters }, body) },
         )
     }
 
@@ -123,14 +122,13 @@ impl Desk {
         &'s self,
         rt: &'s R,
         scope: &Scope<'s, X>,
-        alloc: Global,
-        meters: &'s Meters,
+        scrape: Scrape<'s>,
         body: F,
     ) -> T
         requires { F.pre body }
         ensures { F.post body result }
     {
-        let started = scope.spawn(move || self.run(rt, alloc, meters));
+        let started = scope.spawn(move || self.run(rt, scrape));
         if started.is_err() {
             self.close();
         }

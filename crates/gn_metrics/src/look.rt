@@ -9,7 +9,7 @@ use gn_rules::Counter;
 pub const COUNTERS: usize = Counter::ALL.len();
 
 /// What was counted of a run and its history at a look.
-#[derive(Clone, Copy, Debug)]
+#[derive(Clone, Copy)]
 pub struct Look {
     /// How many steps of the history that was written had each reply or reason to drop, in the order of `Counter::ALL`.
     pub counts: [u32; COUNTERS],

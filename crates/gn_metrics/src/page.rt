@@ -2,7 +2,7 @@
 
 ghost use Rattle.std.specs.Prelude.{◌≡◌, ◌++◌, codes, decimal, OnOk};
 ghost use Rattle.gn_rules.specs.Statistics.{counters};
-ghost use Rattle.gn_metrics.specs.Page.{count_text, counter_kind, counts_text, full_name, gauge_kind, gauges_text, help_text, number_text, page_text, row_name, row_text, rows_text, sample_text, totals_text, type_text};
+ghost use Rattle.gn_metrics.specs.Page.{count_text, counter_kind, counts_text, gauge_kind, gauges_text, number_text, page_text, pieces_text, row_text, rows_text, totals_text};
 
 use crate::look::Look;
 use gn_numbers::counter_name;
@@ -38,51 +38,40 @@ fn push_decimal<A: Allocator>(out: &mut Vec<u8, A>, number: u64) -> Result<(), A
     out.extend_from_slice(buffer.format(number).as_bytes())
 }
 
-/// Appends the name of a row. An `Err` is out of memory.
-fn push_name<A: Allocator>(out: &mut Vec<u8, A>, row: &Row) -> Result<(), AllocError>
-    ensures { OnOk result (out.new.items ≡ out.old.items ++ full_name (row_name row.now)) }
+/// Appends some pieces of text, in order. An `Err` is out of memory.
+fn push_pieces<A: Allocator>(out: &mut Vec<u8, A>, pieces: &[&[u8]]) -> Result<(), AllocError>
+    ensures { OnOk result (out.new.items ≡ out.old.items ++ pieces_text pieces.now) }
 {
-    out.extend_from_slice(b"tineflax_")?;
-    out.extend_from_slice(row.name)?;
-    out.extend_from_slice(row.ending)
+    for piece in pieces {
+        out.extend_from_slice(piece)?;
+    }
+    Ok(())
 }
 
-/// Appends what a row says. An `Err` is out of memory.
-fn push_help<A: Allocator>(out: &mut Vec<u8, A>, row: &Row) -> Result<(), AllocError>
-    ensures { OnOk result (out.new.items ≡ out.old.items ++ help_text (row_name row.now) row.now.help.now) }
-{
-    out.extend_from_slice(b"# HELP ")?;
-    push_name(out, row)?;
-    out.extend_from_slice(b" ")?;
-    out.extend_from_slice(row.help)
-}
-
-/// Appends the kind of a row. An `Err` is out of memory.
-fn push_kind<A: Allocator>(out: &mut Vec<u8, A>, row: &Row) -> Result<(), AllocError>
-    ensures { OnOk result (out.new.items ≡ out.old.items ++ type_text (row_name row.now) row.now.kind.now) }
-{
-    out.extend_from_slice(b"\n# TYPE ")?;
-    push_name(out, row)?;
-    out.extend_from_slice(row.kind)
-}
-
-/// Appends the value of a row. An `Err` is out of memory.
-fn push_sample<A: Allocator>(out: &mut Vec<u8, A>, row: &Row) -> Result<(), AllocError>
-    ensures { OnOk result (out.new.items ≡ out.old.items ++ sample_text (row_name row.now) row.now.value) }
-{
-    push_name(out, row)?;
-    out.extend_from_slice(b" ")?;
-    push_decimal(out, row.value)?;
-    out.extend_from_slice(b"\n")
-}
-
-/// Appends the three lines of a row. An `Err` is out of memory.
+/// Appends the three lines of a row: what it says, its kind and its value. An `Err` is out of memory.
 fn push_row<A: Allocator>(out: &mut Vec<u8, A>, row: &Row) -> Result<(), AllocError>
     ensures { OnOk result (out.new.items ≡ out.old.items ++ row_text row.now) }
 {
-    push_help(out, row)?;
-    push_kind(out, row)?;
-    push_sample(out, row)
+    push_pieces(
+        out,
+        &[
+            b"# HELP tineflax_",
+            row.name,
+            row.ending,
+            b" ",
+            row.help,
+            b"\n# TYPE tineflax_",
+            row.name,
+            row.ending,
+            row.kind,
+            b"tineflax_",
+            row.name,
+            row.ending,
+            b" ",
+        ],
+    )?;
+    push_decimal(out, row.value)?;
+    out.extend_from_slice(b"\n")
 }
 
 /// Appends some rows, in order. An `Err` is out of memory.

@@ -15,7 +15,7 @@ use memchr::{memchr, memchr2};
 const LOOKED_AT: usize = 16;
 
 /// What comes next of a text.
-#[derive(Clone, Copy, Debug, PartialEq, Eq)]
+#[derive(Clone, Copy)]
 enum Place {
     /// The first byte of a line.
     Start,
