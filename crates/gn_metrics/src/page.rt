@@ -1,7 +1,6 @@
 //! The page of the counts, as Prometheus reads it.
 
 ghost use Rattle.std.specs.Prelude.{◌≡◌, ◌++◌, codes, decimal, OnOk};
-ghost use Rattle.gn_rules.specs.Statistics.{counters};
 ghost use Rattle.gn_metrics.specs.Page.{count_text, counter_kind, counts_text, gauge_kind, gauges_text, number_text, page_text, pieces_text, row_text, rows_text, totals_text};
 
 use crate::look::Look;
@@ -187,18 +186,11 @@ fn push_counts<A: Allocator>(
     Ok(())
 }
 
-/// Appends the rows of all counters of steps. An `Err` is out of memory.
-fn push_counters<A: Allocator>(out: &mut Vec<u8, A>, look: &Look) -> Result<(), AllocError>
-    ensures { OnOk result (out.new.items ≡ out.old.items ++ counts_text look.now counters) }
-{
-    push_counts(out, look, &Counter::ALL)
-}
-
 /// Appends the page of what was counted at a look. An `Err` is out of memory, and may leave a part of it.
 pub fn push_page<A: Allocator>(out: &mut Vec<u8, A>, look: &Look) -> Result<(), AllocError>
     ensures { OnOk result (out.new.items ≡ out.old.items ++ page_text look.now) }
 {
-    push_counters(out, look)?;
+    push_counts(out, look, &Counter::ALL)?;
     push_rows(out, &totals(look, look.steps()))?;
     push_rows(out, &gauges(look, look.connections(), look.in_flight()))
 }
