@@ -9,5 +9,6 @@ pub mod KeptLemmas
 pub mod ParsedLemmas
 pub mod PartLemmas
 pub mod PartsLemmas
+pub mod ReplyLemmas
 pub mod SettingsLemmas
 pub mod WholeLemmas

@@ -2,7 +2,7 @@
 #![tactic(auto, using(crate::proofs::KeptLemmas::kept))]
 
 ghost use Rattle.std.specs.Prelude.{◌≡◌, ◌++◌, length, take, OnOk, OnErr};
-ghost use Rattle.gn_text.specs.Steps.{reply_name, reply_rest, reply_text};
+ghost use Rattle.gn_text.specs.Steps.{reply_name, reply_text};
 
 use crate::packet::{write_packet_field, write_sends};
 use crate::push::{write_field, write_number};
@@ -21,14 +21,16 @@ fn reply_name<A: Allocator>(reply: &Reply<A>) -> &'static str
     }
 }
 
-/// Writes what stands behind the word of a reply. An `Err` is out of memory, and may leave a part of it.
-fn write_rest<A: Allocator, B: Allocator>(
+/// Writes a reply, as it stands after the `=` of a step's line, behind what stands there. An `Err` is out of memory, and may leave a part
+/// of it.
+pub(crate) fn write_reply<A: Allocator, B: Allocator>(
     out: &mut Vec<u8, B>,
     reply: &Reply<A>,
 ) -> Result<(), AllocError>
-    ensures ok { OnOk result (out.new.items ≡ out.old.items ++ reply_rest reply.now) }
+    ensures ok { OnOk result (out.new.items ≡ out.old.items ++ reply_text reply.now) }
     ensures err { OnErr result (take (length out.old.items) out.new.items ≡ out.old.items) }
 {
+    out.extend_from_slice(reply_name(reply).as_bytes())?;
     match reply {
         Reply::Routed { sends, local } => {
             write_field(out, place_name(*local).as_bytes())?;
@@ -42,19 +44,6 @@ fn write_rest<A: Allocator, B: Allocator>(
             None => Ok(()),
         },
     }
-}
-
-/// Writes a reply, as it stands after the `=` of a step's line, behind what stands there. An `Err` is out of memory, and may leave a part
-/// of it.
-pub(crate) fn write_reply<A: Allocator, B: Allocator>(
-    out: &mut Vec<u8, B>,
-    reply: &Reply<A>,
-) -> Result<(), AllocError>
-    ensures ok { OnOk result (out.new.items ≡ out.old.items ++ reply_text reply.now) }
-    ensures err { OnErr result (take (length out.old.items) out.new.items ≡ out.old.items) }
-{
-    out.extend_from_slice(reply_name(reply).as_bytes())?;
-    write_rest(out, reply)
 }
 
 /// Appends a reply as it stands after the `=` of a step's line. An `Err` is out of memory, and changes nothing.
