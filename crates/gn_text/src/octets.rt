@@ -2,7 +2,7 @@
 
 ghost use Rattle.std.specs.Prelude.{◌≡◌, ◌<◌, ◌*◌, IfOk, MatchOption, None, Some, if◌then◌else◌, length, option_map};
 ghost use Rattle.std.specs.Result.{result_ok};
-ghost use Rattle.hex.specs.Hex.{decode_of, decode_pairs, hex_digit_value};
+ghost use Rattle.hex.specs.Hex.{decode_pairs, hex_digit_value};
 ghost use Rattle.gn_text.specs.Bytes.{bytes_parsed, guid_of};
 
 use gn_wire::Guid;
@@ -50,21 +50,6 @@ fn put_bytes(digits: &[u8], bytes: &mut [u8]) -> bool
     all < 256
 }
 
-/// The bytes that pairs of hex digits say. An `Err` is out of memory.
-fn decoded<A: Allocator>(alloc: A, digits: &[u8]) -> Result<Option<Vec<u8, A>>, AllocError>
-    ensures { IfOk result (λ found. option_map (λ v. v.items) found ≡ result_ok (decode_of digits.now)) }
-{
-    if digits.len() % 2 != 0 {
-        return Ok(None);
-    }
-    let mut bytes = vec![in alloc; 0u8; digits.len() / 2]?;
-    if put_bytes(digits, &mut bytes) {
-        Ok(Some(bytes))
-    } else {
-        Ok(None)
-    }
-}
-
 /// The bytes that pairs of hex digits say, or `-` for none; an empty field says nothing. An `Err` is out of memory.
 pub fn hex_bytes<A: Allocator + Copy>(
     alloc: A,
@@ -75,7 +60,15 @@ pub fn hex_bytes<A: Allocator + Copy>(
     match field {
         [] => Ok(None),
         [b'-'] => Ok(Some(Vec::new(alloc))),
-        _ => decoded(alloc, field),
+        _ if field.len() % 2 != 0 => Ok(None),
+        _ => {
+            let mut bytes = vec![in alloc; 0u8; field.len() / 2]?;
+            if put_bytes(field, &mut bytes) {
+                Ok(Some(bytes))
+            } else {
+                Ok(None)
+            }
+        }
     }
 }
 

@@ -1,7 +1,7 @@
 //! Descriptors in hex, and the packets that a reply sends.
 #![tactic(auto, using(crate::proofs::KeptLemmas::kept))]
 
-ghost use Rattle.std.specs.Prelude.{◌≡◌, ◌+◌, ◌-◌, ◌≤◌, ◌++◌, ◌∷◌, [], codes, decimal, length, slice_range, take, IfSome, OnOk, OnErr};
+ghost use Rattle.std.specs.Prelude.{◌≡◌, ◌+◌, ◌-◌, ◌≤◌, ◌++◌, ◌∷◌, [], codes, length, slice_range, take, IfSome, OnOk, OnErr};
 ghost use Rattle.hex.specs.Hex.{encode_lower};
 ghost use Rattle.gn_text.specs.Steps.{mark_text, packet_text, sends_text};
 
@@ -115,20 +115,6 @@ fn mark(queued: bool) -> u8
     if queued { b'+' } else { b'-' }
 }
 
-/// Writes the connection and the mark of a send behind what stands there. An `Err` is out of memory, and may leave a part of it.
-fn write_target<A: Allocator, B: Allocator>(
-    out: &mut Vec<u8, B>,
-    sending: &Sending<A>,
-) -> Result<(), AllocError>
-    ensures ok { OnOk result (out.new.items
-        ≡ out.old.items ++ (codes " " ++ decimal sending.now.to ++ mark_text sending.now.queued)) }
-    ensures err { OnErr result (take (length out.old.items) out.new.items ≡ out.old.items) }
-{
-    write_number(out, sending.to)?;
-    out.push(mark(sending.queued))?;
-    Ok(())
-}
-
 /// Writes the sends behind what stands there. An `Err` is out of memory, and may leave a part of them.
 pub(crate) fn write_sends<A: Allocator, B: Allocator>(
     out: &mut Vec<u8, B>,
@@ -140,7 +126,8 @@ pub(crate) fn write_sends<A: Allocator, B: Allocator>(
     let mut before = None;
     let mut place = (0, 0);
     for sending in sends {
-        write_target(out, sending)?;
+        write_number(out, sending.to)?;
+        out.push(mark(sending.queued))?;
         let start = out.len();
         write_next(out, &sending.packet, before, place)?;
         before = Some(&sending.packet);
