@@ -2,7 +2,7 @@
 
 ghost use Rattle.std.specs.Prelude.{◌≡◌, map};
 ghost use Rattle.gn_capture.specs.Outcomes.{IsLineRead};
-ghost use Rattle.gn_capture.specs.CaptureLines.{alone_of, data_of, is_route_all, link_of, number_alone, piece_of};
+ghost use Rattle.gn_capture.specs.CaptureLines.{alone_of, data_of, is_route_all, link_of, number_alone};
 
 use crate::line::{Line, PieceBytes};
 use crate::refusal::LineRefusal;
@@ -51,25 +51,6 @@ pub(crate) fn is_route_all(fields: &[&[u8]]) -> bool
     }
 }
 
-/// A piece of this link, where so many links are made before it.
-fn piece_line<A: Allocator + Copy>(
-    alloc: A,
-    links: u64,
-    link: u32,
-    hex: &[u8],
-) -> Result<Line<A>, LineRefusal>
-    ensures { IsLineRead result (piece_of links link hex.now) }
-{
-    let Some(bytes) = hex_bytes(alloc, hex)? else {
-        return Err(LineRefusal::Fault(Cause::Field));
-    };
-    if link < 1 || u64::from(link) > links {
-        return Err(LineRefusal::Fault(Cause::Link));
-    }
-    let bytes = PieceBytes::of(alloc, bytes)?;
-    Ok(Line::Piece { link, bytes })
-}
-
 /// The piece of a `data` line, where so many links are made before it.
 pub(crate) fn data_line<A: Allocator + Copy>(
     alloc: A,
@@ -83,7 +64,14 @@ pub(crate) fn data_line<A: Allocator + Copy>(
             let Some(link) = number(link) else {
                 return Err(LineRefusal::Fault(Cause::Field));
             };
-            piece_line(alloc, links, link, hex)
+            let Some(bytes) = hex_bytes(alloc, hex)? else {
+                return Err(LineRefusal::Fault(Cause::Field));
+            };
+            if link < 1 || u64::from(link) > links {
+                return Err(LineRefusal::Fault(Cause::Link));
+            }
+            let bytes = PieceBytes::of(alloc, bytes)?;
+            Ok(Line::Piece { link, bytes })
         }
         _ => Err(LineRefusal::Fault(Cause::Fields)),
     }

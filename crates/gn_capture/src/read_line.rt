@@ -2,7 +2,7 @@
 
 ghost use Rattle.std.specs.Prelude.{map};
 ghost use Rattle.gn_text.specs.Lines.{fields_of};
-ghost use Rattle.gn_capture.specs.CaptureLines.{fields_say, line_in, line_of};
+ghost use Rattle.gn_capture.specs.CaptureLines.{fields_say, line_in};
 ghost use Rattle.gn_text.specs.Faults.{IsRead};
 ghost use Rattle.gn_capture.specs.Outcomes.{IsLineRead, numbered};
 
@@ -36,23 +36,6 @@ fn read_fields<A: Allocator + Copy>(
     }
 }
 
-/// What the fields of a line say that each version has.
-fn read_common<A: Allocator + Copy>(
-    alloc: A,
-    links: u64,
-    fields: &[&[u8]],
-) -> Result<Line<A>, LineRefusal>
-    ensures { IsLineRead result (line_of links (map (λ x. x.now) fields.now)) }
-{
-    match fields {
-        [first, fields @ ..] => match line_word_named(first) {
-            Some(word) => read_fields(alloc, links, fields, word),
-            None => Err(LineRefusal::Fault(Cause::Word)),
-        },
-        [] => Err(LineRefusal::Fault(Cause::Word)),
-    }
-}
-
 /// What the fields of a line say, in a version with the line `route all` or without it.
 fn read_line<A: Allocator + Copy>(
     alloc: A,
@@ -65,7 +48,13 @@ fn read_line<A: Allocator + Copy>(
     if has_all && is_route_all(fields) {
         return Ok(Line::RouteAll);
     }
-    read_common(alloc, links, fields)
+    match fields {
+        [first, fields @ ..] => match line_word_named(first) {
+            Some(word) => read_fields(alloc, links, fields, word),
+            None => Err(LineRefusal::Fault(Cause::Word)),
+        },
+        [] => Err(LineRefusal::Fault(Cause::Word)),
+    }
 }
 
 /// What a line says, whose fields are put in place of those of another line.
