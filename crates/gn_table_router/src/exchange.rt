@@ -25,37 +25,6 @@ pub trait Exchange<A: Allocator, K: Keeper<A>, N: Keeper<A>> {
         ensures leaves { leaves self (K.kept keeper) result.1 };
 }
 
-impl<A: Allocator + Copy, K: Keeper<A> + Drop> TableStore<A, K> {
-    /// The same store with another keeper.
-    fn exchange<N: Keeper<A> + Drop, X: Exchange<A, K, N>>(
-        self,
-        by: X,
-    ) -> (Option<TableStore<A, N>>, X::Rest)
-        ensures settings { IfSome result.0 (λ store. store.settings ≡ self.settings) }
-        ensures steps { IfSome result.0 (λ store. store.steps ≡ self.steps) }
-        ensures leaves { X.leaves by self.steps result.1 }
-    {
-        let TableStore {
-            config,
-            history,
-            tables,
-        } = self;
-        let (history, rest) = by.exchange(history);
-        let store = match history {
-            Some(history) => Some(TableStore {
-                config,
-                history,
-                tables,
-            }),
-            None => {
-                drop(tables);
-                None
-            }
-        };
-        (store, rest)
-    }
-}
-
 impl<A: Allocator + Copy, K: Keeper<A> + Drop, C: Configuring> TableRouter<A, K, C> {
     /// The same router with another keeper, and what is left of what made it; `None`, where that had no memory.
     pub fn exchange<N: Keeper<A> + Drop, X: Exchange<A, K, N>>(
@@ -67,13 +36,28 @@ impl<A: Allocator + Copy, K: Keeper<A> + Drop, C: Configuring> TableRouter<A, K,
         ensures leaves { X.leaves by self.router.store.steps result.1 }
     {
         let Router { alloc, store } = self.router;
-        let (store, rest) = store.exchange(by);
-        let router = match store {
-            Some(store) => Some(TableRouter {
-                router: Router { alloc, store },
-                of: PhantomData,
-            }),
-            None => None,
+        let TableStore {
+            config,
+            history,
+            tables,
+        } = store;
+        let (history, rest) = by.exchange(history);
+        let router = match history {
+            Some(history) => {
+                let store = TableStore {
+                    config,
+                    history,
+                    tables,
+                };
+                Some(TableRouter {
+                    router: Router { alloc, store },
+                    of: PhantomData,
+                })
+            }
+            None => {
+                drop(tables);
+                None
+            }
         };
         (router, rest)
     }

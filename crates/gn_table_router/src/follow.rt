@@ -2,8 +2,6 @@
 
 ghost use Rattle.std.specs.Prelude.{◌≡◌, Some, OnErr, OnOk};
 ghost use Rattle.std.specs.FinMap as map;
-ghost use Rattle.gn_wire.specs.Keys.{key_of};
-ghost use Rattle.gn_kept.specs.Remembered.{IsNewKey};
 ghost use Rattle.gn_rules.specs.declared.event.Event.TheVariants.{Take};
 ghost use Rattle.gn_rules.specs.declared.reply.Reply.TheVariants.{Taken};
 ghost use Rattle.gn_tables.specs.Outputs.{first_of};
@@ -50,50 +48,31 @@ impl<A: Allocator + Copy> Tables<A> {
         ensures err { OnErr result (self.new ≡ self.old) }
     {
         match event {
-            Event::Connect => self.connect(reply),
+            Event::Connect => {
+                if let Reply::Connected(c) = reply {
+                    self.neighbours.add(*c)?;
+                    self.connected = *c;
+                }
+                Ok(())
+            }
             Event::Close(c) => {
                 self.neighbours.remove_near(places.neighbour, *c);
                 Ok(())
             }
-            Event::Admit(c, packet) => self.admit(*c, packet, reply),
+            Event::Admit(c, packet) => {
+                if let Reply::Admitted(ticket) = reply {
+                    self.flights.add(*ticket, *c, packet.copy()?)?;
+                    self.admitted = *ticket + 1;
+                }
+                Ok(())
+            }
             Event::Route(ticket) => self.route(places.flight, *ticket, reply),
             Event::Take(c) => {
                 drop(self.neighbours.pop_near(places.neighbour, *c));
                 Ok(())
             }
-            Event::Originate(packet) => self.originate(packet),
+            Event::Originate(packet) => self.seen.keep(packet.kind(), packet.id(), 0),
         }
-    }
-
-    /// A new connection. An `Err` is out of memory, and changes nothing.
-    fn connect(&mut self, reply: &Reply<A>) -> Result<(), AllocError>
-        requires { after.CanConnect reply.now self.old }
-        ensures ok { OnOk result (self.new ≡ after.connected reply.now self.old) }
-        ensures err { OnErr result (self.new ≡ self.old) }
-    {
-        if let Reply::Connected(c) = reply {
-            self.neighbours.add(*c)?;
-            self.connected = *c;
-        }
-        Ok(())
-    }
-
-    /// A new ticket. An `Err` is out of memory, and changes nothing.
-    fn admit(
-        &mut self,
-        from: u32,
-        packet: &Descriptor<A>,
-        reply: &Reply<A>,
-    ) -> Result<(), AllocError>
-        requires { after.CanAdmit reply.now self.old }
-        ensures ok { OnOk result (self.new ≡ after.admitted from packet.now reply.now self.old) }
-        ensures err { OnErr result (self.new ≡ self.old) }
-    {
-        if let Reply::Admitted(ticket) = reply {
-            self.flights.add(*ticket, from, packet.copy()?)?;
-            self.admitted = *ticket + 1;
-        }
-        Ok(())
     }
 
     /// A flight that is routed: it is remembered, and it is over. It is looked for at the place `near` first. An `Err` is out of
@@ -110,15 +89,6 @@ impl<A: Allocator + Copy> Tables<A> {
         remember(&mut self.seen, &mut self.servents, flight, reply)?;
         drop(self.flights.finish_near(place, ticket));
         Ok(())
-    }
-
-    /// The local servent's descriptor, which is remembered. An `Err` is out of memory, and changes nothing.
-    fn originate(&mut self, packet: &Descriptor<A>) -> Result<(), AllocError>
-        requires { IsNewKey (key_of packet.now) self.old.seen }
-        ensures ok { OnOk result (self.new ≡ after.originated packet.now self.old) }
-        ensures err { OnErr result (self.new ≡ self.old) }
-    {
-        self.seen.keep(packet.kind(), packet.id(), 0)
     }
 
     /// Does what a Take of this packet does to the tables, and gives the packet, moved out of what waits. Its connection is looked

@@ -108,19 +108,13 @@ impl<A: Allocator + Copy, K: Keeper<A>, N: Configuring> RouterCore<A> for TableR
 
 impl<A: Allocator + Copy> FreshRouter<A> for TableRouter<A, Whole<A>> {
     fn make(alloc: A, config: &Config) -> Result<Self, AllocError> {
-        Ok(TableRouter {
-            router: Router::make(alloc, config)?,
-            of: PhantomData,
-        })
+        TableRouter::over(alloc, config, Whole::new(alloc))
     }
 }
 
 impl<A: Allocator + Copy> FreshRouter<A> for TableRouter<A, Forgetful<A>> {
     fn make(alloc: A, config: &Config) -> Result<Self, AllocError> {
-        Ok(TableRouter {
-            router: Router::make(alloc, config)?,
-            of: PhantomData,
-        })
+        TableRouter::over(alloc, config, Forgetful::new())
     }
 }
 
