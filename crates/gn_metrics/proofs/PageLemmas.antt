@@ -5,9 +5,11 @@ use Rattle.std.specs.Result.{is_ok}
 use Rattle.std.specs.List.{flat_map}
 use Rattle.std.proofs.lemmas.List.{append-nil}
 use Rattle.gn_metrics.specs.declared.page.Row.{Row}
+use Rattle.gn_rules.specs.declared.statistics.Counter.{Counter}
+use Rattle.gn_numbers.specs.Names.{counter_name}
 use Rattle.gn_metrics.specs.declared.look.Look.{Look}
-use Rattle.gn_metrics.specs.Counted.{connections_of, in_flight_of, steps_of}
-use Rattle.gn_metrics.specs.Page.{gauges_text, row_text, rows_text, totals_text}
+use Rattle.gn_metrics.specs.Counted.{connections_of, count_at, in_flight_of, steps_of}
+use Rattle.gn_metrics.specs.Page.{count_text, counter_kind, gauges_text, number_text, row_text, rows_text, steps_help, totals_text}
 
 -- the text of four items
 pub four_texts : {X : Type 0} (f : X → List ℕ) (a b c d : X) (s t u v : List ℕ) → f a ≡ s → f b ≡ t → f c ≡ u → f d ≡ v
@@ -52,3 +54,12 @@ pub gauges_of : (look : Look) (rows : List Row) (connections in_flight : ℕ) �
     → connections ≡ connections_of look → in_flight ≡ in_flight_of look → rows_text rows ≡ gauges_text look (connections_of look) (in_flight_of look)
 gauges_of look rows connections in_flight text live flying =
     text ∙ ap (λ (n : ℕ). gauges_text look n in_flight) live ∙ ap (λ (n : ℕ). gauges_text look (connections_of look) n) flying
+
+-- the row of a counter's name and count is its text
+pub count_put : (look : Look) (counter : Counter) (row : Row) (letters : List ℕ) (value : ℕ)
+    → row_text row ≡ number_text (letters ++ codes "_total") counter_kind steps_help value → letters ≡ counter_name counter → value ≡ count_at look counter
+    → row_text row ≡ count_text look counter
+unfolding count_text
+count_put look counter row letters value text name is =
+    text ∙ ap (λ (n : List ℕ). number_text (n ++ codes "_total") counter_kind steps_help value) name
+    ∙ ap (λ (v : ℕ). number_text (counter_name counter ++ codes "_total") counter_kind steps_help v) is

@@ -1,7 +1,7 @@
 //! The page of the counts, as Prometheus reads it.
 
 ghost use Rattle.std.specs.Prelude.{◌≡◌, ◌++◌, codes, decimal, OnOk};
-ghost use Rattle.gn_metrics.specs.Page.{count_text, counter_kind, counts_text, gauge_kind, gauges_text, number_text, page_text, pieces_text, row_text, rows_text, totals_text};
+ghost use Rattle.gn_metrics.specs.Page.{counter_kind, counts_text, gauge_kind, gauges_text, number_text, page_text, pieces_text, row_text, rows_text, totals_text};
 
 use crate::look::Look;
 use gn_numbers::counter_name;
@@ -161,17 +161,6 @@ fn gauges(look: &Look, connections: u64, in_flight: u64) -> [Row<'static>; 4]
     ]
 }
 
-/// The row of a counter of steps.
-fn count_row(look: &Look, counter: Counter) -> Row<'static>
-    ensures { row_text result ≡ count_text look.now counter }
-{
-    total(
-        counter_name(counter).as_bytes(),
-        u64::from(look.count(counter)),
-        STEPS_HELP,
-    )
-}
-
 /// Appends the rows of some counters of steps, in order. An `Err` is out of memory.
 fn push_counts<A: Allocator>(
     out: &mut Vec<u8, A>,
@@ -181,7 +170,9 @@ fn push_counts<A: Allocator>(
     ensures { OnOk result (out.new.items ≡ out.old.items ++ counts_text look.now which.now) }
 {
     for counter in which {
-        push_row(out, &count_row(look, *counter))?;
+        let name = counter_name(*counter).as_bytes();
+        let row = total(name, u64::from(look.count(*counter)), STEPS_HELP);
+        push_row(out, &row)?;
     }
     Ok(())
 }
