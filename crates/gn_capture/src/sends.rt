@@ -1,6 +1,6 @@
 //! The packets that a reply sends.
 
-ghost use Rattle.std.specs.Prelude.{◌≡◌, ◌≤◌, [], IfOk, length, map};
+ghost use Rattle.std.specs.Prelude.{◌≡◌, ◌≤◌, IfOk, length, map};
 ghost use Rattle.gn_capture.specs.Packets.{packet_parsed};
 ghost use Rattle.gn_capture.specs.Replies.{hex_of, is_unmarked, mark_place, marked_parsed, sending_parsed, sends_parsed};
 ghost use Rattle.gn_capture.specs.Known.{IsKnown, SaysLast};
@@ -110,13 +110,6 @@ fn last_known<'a, A: Allocator>(
     Some((hex, &last.packet))
 }
 
-/// No sends yet, and room for so many. An `Err` is out of memory.
-fn room_for<A: Allocator + Copy>(alloc: A, count: usize) -> Result<Sends<A>, AllocError>
-    ensures { IfOk result (λ sends. sends ≡ []) }
-{
-    Ok(Sends::from_vec(Vec::with_capacity(alloc, count)?))
-}
-
 /// The sends that fields say, one each. An `Err` is out of memory.
 #[tactic(auto, using(crate::proofs::KnownLemmas::says_sent))]
 pub(crate) fn read_sends<A: Allocator + Copy>(
@@ -125,7 +118,7 @@ pub(crate) fn read_sends<A: Allocator + Copy>(
 ) -> Result<Option<Sends<A>>, AllocError>
     ensures { IfOk result (λ found. found ≡ sends_parsed (map (λ x. x.now) fields.now)) }
 {
-    let mut sends = room_for(alloc, fields.len())?;
+    let mut sends = Sends::from_vec(Vec::with_capacity(alloc, fields.len())?);
     let mut hex: &[u8] = &[];
     for field in fields {
         let before = last_known(sends.as_slice(), hex);
