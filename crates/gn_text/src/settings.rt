@@ -12,7 +12,7 @@ use crate::line::is_word;
 use crate::octets::guid;
 use crate::part::{Part, push_parts};
 use gn_numbers::{Version, least_version, number, number_u16, read_later};
-use gn_rules::{Config, Numbers, Own};
+use gn_rules::{Numbers, Own};
 use std::alloc::{AllocError, Allocator};
 
 /// These numbers, where each is within its limit.
@@ -119,7 +119,8 @@ pub(crate) fn push_config<B: Allocator>(
     out: &mut Vec<u8, B>,
     numbers: &Numbers,
 ) -> Result<(), AllocError>
-    ensures ok { OnOk result (out.new.items ≡ out.old.items ++ (six_text numbers.now ++ later_text (version_for numbers.now) numbers.now)) }
+    ensures ok { OnOk result (out.new.items
+        ≡ out.old.items ++ (six_text numbers.now ++ later_text (version_for numbers.now) numbers.now)) }
     ensures err { OnErr result (out.new.items ≡ out.old.items) }
 {
     let parts: &[Part] = &[
