@@ -1,4 +1,4 @@
-//! What is looked after again and again while a run over TCP goes on: when a Ping is due, and who floods the run.
+//! What a run over TCP looks at each second: whether a Ping is due, and which neighbours flood it.
 
 use crate::floods::{Floods, SLOTS};
 use crate::pings::Reminder;
@@ -63,7 +63,7 @@ fn stem<R: Wait, G: Watch, A: Allocator>(rt: &R, stops: &Stops<'_, A>, watch: &G
     }
 }
 
-/// When a Ping is due, of which the run is reminded so, and when one looks for floods.
+/// When a Ping is due, where the run is reminded of Pings, and when its neighbours are looked at for floods.
 #[derive(Drop)]
 pub(crate) struct Looks<'a> {
     reminder: Option<&'a Reminder<'a>>,
@@ -72,7 +72,7 @@ pub(crate) struct Looks<'a> {
 }
 
 impl<'a> Looks<'a> {
-    /// Of a run whose own servent sends Pings where there is a reminder, and that floods may end links of.
+    /// Of a run that sends Pings where there is a reminder, and that ends links that flood it where floods are counted.
     pub(crate) fn new(reminder: Option<&'a Reminder<'a>>, floods: &Option<Floods>) -> Self {
         let every = match reminder {
             Some(reminder) => reminder.every(),

@@ -81,7 +81,8 @@ pub(crate) fn threads_come<N: Threads + Clock, A: Allocator>(
     false
 }
 
-/// The link, which ends with the run by this. At a fault the links that have come are let go at once.
+/// Has the link ended by this stopper when the run ends. Where there is no memory to note that, all links that have come are let
+/// go at once.
 pub(crate) fn ended_by<N: Wait, A: Allocator>(
     net: &N,
     stops: &Stops<'_, A>,
@@ -101,8 +102,8 @@ pub(crate) fn ended_by<N: Wait, A: Allocator>(
     }
 }
 
-/// The link, which ends with the run. Its peer is let go where the run is stopped before. At a fault the links that have come are
-/// let go at once.
+/// Has the link end with the run. Its peer is let go where the run is stopped before. Where there is no memory to note that, all links
+/// that have come are let go at once.
 pub(crate) fn registered<N: Wait + Clock, A: Allocator>(
     net: &N,
     stops: &Stops<'_, A>,
