@@ -6,6 +6,7 @@ ghost use Rattle.gn_stream.specs.Reading.{Passes, place};
 ghost use Rattle.gn_replay.specs.Judgements.{IsFoundOf, IsPassedOf, SayMade};
 ghost use Rattle.gn_replay.specs.declared.judgement.Judgement.TheVariants.{Legal};
 
+use crate::given::add;
 use crate::judgement::{Answer, Judgement, WrongStep};
 use gn_io::Source;
 use gn_rules::{Event, Refusal, RouterCore};
@@ -56,7 +57,7 @@ pub(crate) fn judge<A: Allocator + Copy, C: RouterCore<A>, S: Source>(
         (place (S.state source.old) lines.old) (place (S.state source.new) lines.new)) }
 {
     let mut index = 0u32;
-    while let Some((number, mut step)) = next_step(alloc, lines, source)? {
+    while let Some((number, step)) = next_step(alloc, lines, source)? {
         if !core.is_answered(&step) {
             let answer = rules_answer(core, &step.event);
             drop(step);
@@ -71,9 +72,7 @@ pub(crate) fn judge<A: Allocator + Copy, C: RouterCore<A>, S: Source>(
             };
             return Ok((Judgement::WrongAt(wrong), index));
         }
-        let added = core.add(&mut step);
-        drop(step);
-        added?;
+        add(core, step)?;
         index += 1;
     }
     Ok((Judgement::Legal, index))

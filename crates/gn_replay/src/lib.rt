@@ -6,6 +6,7 @@ mod explanation;
 mod fault;
 mod flights;
 mod form;
+mod given;
 mod histories;
 mod judge;
 mod judged;

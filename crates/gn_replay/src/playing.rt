@@ -8,6 +8,7 @@ ghost use Rattle.gn_replay.specs.Outcomes.{IsOutcome};
 ghost use Rattle.gn_replay.specs.Playing.{after_playing};
 
 use crate::form::Form;
+use crate::given::add;
 use crate::link::Link;
 use crate::outcome::Outcome;
 use crate::saying::Saying;
@@ -54,7 +55,7 @@ impl<A: Allocator + Copy, C: RouterCore<A>> Play<A, C> {
           out = self.old.out ++ step_text (made event reply);
         }) }
     {
-        let mut step = Step {
+        let step = Step {
             actor: 0,
             event,
             reply,
@@ -64,9 +65,7 @@ impl<A: Allocator + Copy, C: RouterCore<A>> Play<A, C> {
             connection: step.reply.connected(),
             is_not_live: false,
         };
-        let added = self.core.add(&mut step);
-        drop(step);
-        added?;
+        add(&mut self.core, step)?;
         Ok(outcome)
     }
 

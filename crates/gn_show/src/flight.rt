@@ -91,15 +91,8 @@ impl Flight {
         ensures { OnOk result ((past : List (Step Global)) → Follows self.old past → Follows self.new (step ∷ past)) }
     {
         self.forget(step.event.ticket());
-        let Step {
-            actor: _,
-            event,
-            reply,
-        } = step;
-        let admitted = reply.admitted();
-        drop(reply);
-        match admitted {
-            Some(ticket) => self.remember(ticket, event),
+        match step.reply.admitted() {
+            Some(ticket) => self.remember(ticket, step.event),
             None => Ok(()),
         }
     }

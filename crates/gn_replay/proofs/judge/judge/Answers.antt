@@ -47,22 +47,22 @@ returns-then-not-is_answered-clause-found g c =
     refl refl (c.in_ok-line.ensures.items ∙ c.line.ensures) c.in_ok-rules.ensures (λ is. true≢false (sym (c.is_answered.ensures.1 is) ∙ c.if-not-is_answered.true))
     c.loop-number.invariant (rw c.in-Some.is at c.in_ok-number.ensures.read) c.in_ok-pass_left.ensures
 
-pub returns-in_err-added-clause-found : goal.returns-in_err-added-clause-found
-returns-in_err-added-clause-found g c =
+pub returns-in_err-add-clause-found : goal.returns-in_err-add-clause-found
+returns-in_err-add-clause-found g c =
     step_unread (g.C.RouterCore.settings c.args.core.now) (g.C.RouterCore.settings c.loop-number.core) (g.C.RouterCore.steps c.loop-number.core) c.loop-number.index
-    c.next_step.new.lines.line c.in-Some.number c.in-Some.step _ c.from_residual-in_err-added.result
+    c.next_step.new.lines.line c.in-Some.number c.in-Some.step _ c.from_residual-in_err-add.result
     (place (g.S.Source.state c.args.source.now) c.args.lines.now) (place (g.S.Source.state c.loop-number.source) c.loop-number.lines)
-    (place (g.S.Source.state c.next_step.new.source) c.next_step.new.lines) c.from_residual-in_err-added.ensures.1 c.loop-number.invariant (rw c.in-Some.is at c.in_ok-number.ensures.read)
+    (place (g.S.Source.state c.next_step.new.source) c.next_step.new.lines) c.from_residual-in_err-add.ensures.1 c.loop-number.invariant (rw c.in-Some.is at c.in_ok-number.ensures.read)
 
 pub overflow_add-index : goal.overflow_add-index
 overflow_add-index g c =
     let few =
-    few_made (g.C.RouterCore.settings c.args.core.now) (g.C.RouterCore.settings c.add-added.new.self) (g.C.RouterCore.steps c.add-added.new.self) (c.loop-number.index + 1)
+    few_made (g.C.RouterCore.settings c.args.core.now) (g.C.RouterCore.settings c.add.new.core) (g.C.RouterCore.steps c.add.new.core) (c.loop-number.index + 1)
     (place (g.S.Source.state c.args.source.now) c.args.lines.now) (place (g.S.Source.state c.next_step.new.source) c.next_step.new.lines)
     (repeats_more (g.C.RouterCore.settings c.args.core.now) (g.C.RouterCore.settings c.loop-number.core) (g.C.RouterCore.steps c.loop-number.core) c.loop-number.index
-    c.next_step.new.lines.line c.in-Some.number c.in-Some.step (g.C.RouterCore.settings c.add-added.new.self) (g.C.RouterCore.steps c.add-added.new.self)
+    c.next_step.new.lines.line c.in-Some.number c.in-Some.step (g.C.RouterCore.settings c.add.new.core) (g.C.RouterCore.steps c.add.new.core)
     (place (g.S.Source.state c.args.source.now) c.args.lines.now) (place (g.S.Source.state c.loop-number.source) c.loop-number.lines)
-    (place (g.S.Source.state c.next_step.new.source) c.next_step.new.lines) (c.is_answered.ensures.0 c.if-not-is_answered.false) c.in_ok-added.ensures.settings c.in_ok-added.ensures.step
+    (place (g.S.Source.state c.next_step.new.source) c.next_step.new.lines) (c.is_answered.ensures.0 c.if-not-is_answered.false) c.in_ok-add.ensures.settings c.in_ok-add.ensures.step
     c.loop-number.invariant (rw c.in-Some.is at c.in_ok-number.ensures.read)) in
     omega (arith, few)
 
@@ -76,9 +76,9 @@ loop-number-smaller g c =
 pub loop-number-preserved : goal.loop-number-preserved
 loop-number-preserved g c =
     repeats_more (g.C.RouterCore.settings c.args.core.now) (g.C.RouterCore.settings c.loop-number.core) (g.C.RouterCore.steps c.loop-number.core) c.loop-number.index
-    c.next_step.new.lines.line c.in-Some.number c.in-Some.step (g.C.RouterCore.settings c.add-added.new.self) (g.C.RouterCore.steps c.add-added.new.self)
+    c.next_step.new.lines.line c.in-Some.number c.in-Some.step (g.C.RouterCore.settings c.add.new.core) (g.C.RouterCore.steps c.add.new.core)
     (place (g.S.Source.state c.args.source.now) c.args.lines.now) (place (g.S.Source.state c.loop-number.source) c.loop-number.lines)
-    (place (g.S.Source.state c.next_step.new.source) c.next_step.new.lines) (c.is_answered.ensures.0 c.if-not-is_answered.false) c.in_ok-added.ensures.settings c.in_ok-added.ensures.step
+    (place (g.S.Source.state c.next_step.new.source) c.next_step.new.lines) (c.is_answered.ensures.0 c.if-not-is_answered.false) c.in_ok-add.ensures.settings c.in_ok-add.ensures.step
     c.loop-number.invariant (rw c.in-Some.is at c.in_ok-number.ensures.read)
 
 pub returns-clause-found : goal.returns-clause-found
