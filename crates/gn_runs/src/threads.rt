@@ -8,6 +8,7 @@ mod full;
 mod given_up;
 mod homing;
 pub(crate) mod hub;
+pub(crate) mod place;
 mod report;
 pub(crate) mod runs;
 mod service;

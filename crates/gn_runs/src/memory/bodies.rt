@@ -1,20 +1,14 @@
 //! The bodies of one link, called in turn on one thread.
 
+use crate::threads::bodies::worked::link_of_one_ping;
 use crate::threads::bodies::{Ends, Ran, Setting, run_link};
 use gn_bodies::{BodyFault, ReaderEnd, WriterEnd};
-use gn_fixtures::{Heap, OWN_PONG, PING, Refused, Turn, Turns, growths};
-use gn_links::MemoryLink;
-use gn_shake::{Role, consent, request};
-use std::alloc::{AllocError, Allocator};
+use gn_fixtures::{Heap, OWN_PONG, Refused, Turn, Turns, growths};
+use gn_shake::{Role, consent};
+use std::alloc::Allocator;
 use std::process::Abort;
 use std::sync::Wait;
 use std::test::Fail;
-
-/// An accepting link that asks for a connection and sends one Ping.
-fn one_ping<B: Allocator + Copy>(rich: B) -> Result<MemoryLink<B>, AllocError> {
-    let bytes = [request(), PING].concat(rich)?;
-    Ok(MemoryLink::new(Role::Accepting, bytes, 4_096))
-}
 
 /// How many of them were out of memory. None where one has another fault.
 fn all_stopped(ends: Ends) -> Option<u32> {
@@ -64,7 +58,8 @@ impl<'a, A: Allocator + Copy, B: Allocator + Copy, R: Wait> Turns<A> for Bodies<
         heap.refuse_none();
         let written = (consent(), OWN_PONG);
         let setting = Setting::refusing(heap, refused, written);
-        let ran = run_link(self.rt, alloc, setting, one_ping(self.rich)?)?;
+        let link = link_of_one_ping(self.rich, Role::Accepting, 4_096)?;
+        let ran = run_link(self.rt, alloc, setting, link)?;
         Ok(turn_of(&ran, refused))
     }
 }

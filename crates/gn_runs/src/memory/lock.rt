@@ -3,12 +3,12 @@
 ghost use Rattle.std.specs.Prelude.{◌≡◌};
 
 use crate::threads::hub::service_of;
+use crate::threads::place::{Locked, Made, Place, passed_on};
 use gn_actors::{Named, Unopened};
 use gn_capture::read_history;
-use gn_fixtures::{Heap, Refused, Turn, Turns, are_same, growths, ping};
-use gn_hub::{Actor, Batch, Hub, Role, Service, ServiceFault};
-use gn_payload::Checked;
-use gn_rules::{Event, Historian, Receipt, Refusal};
+use gn_fixtures::{Heap, Refused, Turn, Turns, are_same, growths};
+use gn_hub::{Actor, Hub, Role, Service, ServiceFault};
+use gn_rules::{Historian, Receipt, Refusal};
 use gn_search::PlainRouter;
 use gn_table_router::TableRouter;
 use std::alloc::{Allocator, Global};
@@ -19,10 +19,8 @@ use std::test::Fail;
 
 /// A call of the run.
 #[derive(Clone, Copy)]
-enum Made {
-    Connects,
-    Admits,
-    Routes,
+enum Call {
+    Makes(Made),
     Takes,
 }
 
@@ -31,12 +29,12 @@ const CALL_COUNT: usize = 5;
 
 /// The calls of the run, each with the actor who makes it: two links connect, the first sends a Ping, a worker routes it, and
 /// the writer of the second takes it.
-const CALLS: [(usize, Made); CALL_COUNT] = [
-    (0, Made::Connects),
-    (1, Made::Connects),
-    (0, Made::Admits),
-    (4, Made::Routes),
-    (3, Made::Takes),
+const CALLS: [(usize, Call); CALL_COUNT] = [
+    (0, Call::Makes(Made::Connects(0))),
+    (1, Call::Makes(Made::Connects(1))),
+    (0, Call::Makes(Made::Admits)),
+    (4, Call::Makes(Made::Routes(0))),
+    (3, Call::Takes),
 ];
 
 /// Their history.
@@ -49,82 +47,6 @@ own eeeeeeeeeeeeeeeeeeeeeeeeeeeeeeee 127.0.0.1 6346 5 40\n\
 4 route 0 = routed local 1+a1a1a1a1a1a1a1a1a1a1a1a1a1a1a1a10101000e000000ca187f0000010500000028000000 2+a1a1a1a1a1a1a1a1a1a1a1a1a1a1a1a100060100000000\n\
 3 take 2 = taken a1a1a1a1a1a1a1a1a1a1a1a1a1a1a1a100060100000000\n\
 end\n";
-
-/// What the calls pass on: an Admit of a Ping, and that Ping, whose payload was checked.
-#[derive(Drop)]
-struct Passed<A: Allocator> {
-    admit: Event<A>,
-    checked: Checked<A>,
-}
-
-/// Where the calls are made: on what lies under the lock, or on the lock.
-trait Place<L: Ledger + Named, A: Allocator + Copy> {
-    /// Makes a call that isn't a Take: the actor's own link connects, its Ping is admitted, or ticket 0 is routed.
-    fn call(
-        &mut self,
-        me: &mut Actor<L, A>,
-        made: Made,
-        passed: &Passed<A>,
-    ) -> Result<Receipt<A>, Refusal>;
-
-    /// Takes a packet of the second connection: the refusal, where there is one. Nothing is put to those that are kept
-    /// where there is no packet.
-    fn take(&mut self, me: &mut Actor<L, A>, kept: &mut Vec<Receipt<A>, A>) -> Option<Refusal>;
-}
-
-impl<A: Allocator + Copy, C: Historian<A>, L: Ledger + Named> Place<L, A> for Hub<C, L, A> {
-    fn call(
-        &mut self,
-        me: &mut Actor<L, A>,
-        made: Made,
-        passed: &Passed<A>,
-    ) -> Result<Receipt<A>, Refusal> {
-        match made {
-            Made::Connects => {
-                let link = me.number();
-                Hub::connect(self, me, link)
-            }
-            Made::Admits => Hub::call(self, me, &passed.admit),
-            _ => Hub::route(self, me, 0, &passed.checked),
-        }
-    }
-
-    fn take(&mut self, me: &mut Actor<L, A>, kept: &mut Vec<Receipt<A>, A>) -> Option<Refusal> {
-        self.next_out(me, 2, kept).err()
-    }
-}
-
-/// The lock, and the runtime by which it is waited for.
-#[derive(Drop)]
-struct Locked<'r, 's, R, C: Historian<A> + Drop, L: Ledger + Named, A: Allocator + Copy> {
-    rt: &'r R,
-    service: &'s Service<C, L, A>,
-}
-
-impl<'r, 's, A: Allocator + Copy, C: Historian<A> + Drop, L: Ledger + Named, R: Wait> Place<L, A>
-    for Locked<'r, 's, R, C, L, A> {
-    fn call(
-        &mut self,
-        me: &mut Actor<L, A>,
-        made: Made,
-        passed: &Passed<A>,
-    ) -> Result<Receipt<A>, Refusal> {
-        match made {
-            Made::Connects => {
-                let link = me.number();
-                self.service.connect(self.rt, me, link)
-            }
-            Made::Admits => self.service.call(self.rt, me, &passed.admit),
-            _ => self.service.route(self.rt, me, 0, &passed.checked),
-        }
-    }
-
-    fn take(&mut self, me: &mut Actor<L, A>, kept: &mut Vec<Receipt<A>, A>) -> Option<Refusal> {
-        self.service
-            .next_batch(self.rt, me, 2, Batch::one(), kept, &mut None)
-            .err()
-    }
-}
 
 /// Takes a packet: its receipt. `NothingWaiting` where there is none.
 fn take<A: Allocator + Copy, L: Ledger + Named, P: Place<L, A>>(
@@ -139,16 +61,6 @@ fn take<A: Allocator + Copy, L: Ledger + Named, P: Place<L, A>>(
     }
 }
 
-/// What the calls pass on.
-fn passed_on<A: Allocator>() -> Option<Passed<A>> {
-    let pings = ping(0xa1, 7, 0).ok().zip(ping(0xa1, 7, 0).ok());
-    let (admitted, routed) = pings?;
-    Some(Passed {
-        admit: Event::Admit(1, admitted),
-        checked: Checked::new(routed),
-    })
-}
-
 /// Makes the call of this number: its receipt. `NotLive` where there is no such actor.
 fn receipt_of<A: Allocator + Copy, L: Ledger + Named, P: Place<L, A>>(
     place: &mut P,
@@ -156,13 +68,13 @@ fn receipt_of<A: Allocator + Copy, L: Ledger + Named, P: Place<L, A>>(
     actors: &mut [Actor<L, A>],
     number: usize,
 ) -> Result<Receipt<A>, Refusal> {
-    let (who, made) = CALLS[number.min(4)];
+    let (who, call) = CALLS[number.min(4)];
     let me = actors.get_mut(who).ok_or(Refusal::NotLive)?;
-    if let Made::Takes = made {
+    let Call::Makes(made) = call else {
         return take(place, alloc, me);
-    }
-    let passed = passed_on().ok_or(Refusal::NotLive)?;
-    place.call(me, made, &passed)
+    };
+    let passed = passed_on(0xa1).ok_or(Refusal::NotLive)?;
+    place.make(me, made, &passed)
 }
 
 /// Makes the call of this number, whose step has the same number. `Strange` where its receipt says another.
@@ -173,7 +85,9 @@ fn make<A: Allocator + Copy, L: Ledger + Named, P: Place<L, A>>(
     number: usize,
 ) -> Result<(), Refusal> {
     let receipt = receipt_of(place, alloc, actors, number)?;
-    if receipt.index as usize == number {
+    let is_right = receipt.index as usize == number;
+    drop(receipt);
+    if is_right {
         Ok(())
     } else {
         Err(Refusal::Strange)

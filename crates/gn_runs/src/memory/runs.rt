@@ -60,10 +60,10 @@ fn run_refused<A: Allocator + Copy + Send + Sync, R: Threads + Wait + Sync>(
     let config = ample()?;
     let links = links_of_pings(alloc, alloc, 2)?;
     refused.begin(heap);
-    let ran = run_of(rt, alloc, &config, links, 1, &NoGate);
+    let fault = run_of(rt, alloc, &config, links, 1, &NoGate).err();
     let has_refused = heap.has_refused();
     heap.refuse_none();
-    Ok(turn_of(ran.err(), has_refused))
+    Ok(turn_of(fault, has_refused))
 }
 
 /// How many growths of a run are refused, each alone or with all later ones, until a run meets none.
@@ -84,7 +84,7 @@ fn growths_of_runs<A: Allocator + Copy + Send + Sync, R: Threads + Wait + Sync>(
 }
 
 /// How many readers of a run ended by their bytes, and how many writers failed.
-fn ends_of<Rd, W, A: Allocator>(report: &Report<Rd, W, A>) -> (usize, usize) {
+fn ends_of<Rd: Drop, W: Drop, A: Allocator>(report: Report<Rd, W, A>) -> (usize, usize) {
     let (mut read, mut failed) = (0usize, 0usize);
     for link in &report.links {
         read = read.wrapping_add((link.reader_end == ReaderEnd::Bytes) as usize);
@@ -104,11 +104,10 @@ fn run_over_two<
     let config = ample()?;
     let links = links_of_pings(poor, rich, count)?;
     heap.refuse_from(0);
-    let ran = run_of(rt, rich, &config, links, 1, &NoGate);
-    let Ok(report) = ran else {
-        return Err("a report".into());
-    };
-    Ok(ends_of(&report))
+    match run_of(rt, rich, &config, links, 1, &NoGate) {
+        Ok(report) => Ok(ends_of(report)),
+        Err(_) => Err("a report".into()),
+    }
 }
 
 /// Fails unless each link's writer fails in a run over one link and in one over two, and the one reader ends by its bytes,

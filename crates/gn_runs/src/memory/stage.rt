@@ -2,54 +2,14 @@
 
 ghost use Rattle.std.specs.Prelude.{◌≡◌};
 
-use crate::threads::bodies::last_of;
-use crate::threads::stage::{put_some, ticket_of};
+use crate::threads::stage::{intakes_home, is_settled_so, outlets_home, put_two_and_take};
 use gn_fixtures::{Heap, Refused, Turn, Turns, growths};
-use gn_stage::{
-    Desk, Intake, IntakeHome, Outlet, OutletHome, Settled, Site, Stage, StageFault, Unsettled,
-};
+use gn_stage::{Desk, IntakeHome, OutletHome, Settled, Site, Stage, StageFault, Unsettled};
 use std::alloc::{AllocError, Allocator};
 use std::marker::Brand;
 use std::process::Abort;
 use std::sync::Wait;
 use std::test::Fail;
-
-/// Whether two jobs were put, one was taken, and the second was left.
-fn is_right<A: Allocator>(settled: &Settled<A>) -> bool {
-    let left = match settled.drained.as_slice() {
-        [job] => job.ticket == 1,
-        _ => false,
-    };
-    settled.put == 2 && settled.taken == 1 && left
-}
-
-/// The only intake of a stage at home, where two jobs were put.
-fn put_two<A: Allocator + Copy, S: Site, R: Wait>(
-    rt: &R,
-    alloc: A,
-    intakes: Vec<Intake<S, A>, A>,
-) -> Result<Vec<IntakeHome<S, A>, A>, AllocError> {
-    let mut intake = last_of(intakes).ok_or(AllocError)?;
-    put_some(rt, &mut intake, 0, 2);
-    Ok(vec![in alloc; intake.finish()]?)
-}
-
-/// Whether the first outlet takes the first job.
-fn takes_first<A: Allocator, S: Site, R: Wait>(rt: &R, outlets: &mut [Outlet<S, A>]) -> bool {
-    match outlets.first_mut() {
-        Some(outlet) => ticket_of(outlet.take(rt)) == Some(0),
-        None => false,
-    }
-}
-
-/// The only outlet of a stage at home.
-fn outlet_home<A: Allocator + Copy, S: Site>(
-    alloc: A,
-    outlets: Vec<Outlet<S, A>, A>,
-) -> Result<Vec<OutletHome<S, A>, A>, AllocError> {
-    let outlet = last_of(outlets).ok_or(AllocError)?;
-    Ok(vec![in alloc; outlet.finish()]?)
-}
 
 /// Settles again what was out of memory.
 fn settle_again<A: Allocator + Copy, S: Site, R: Wait>(
@@ -64,7 +24,7 @@ fn settle_again<A: Allocator + Copy, S: Site, R: Wait>(
         intakes,
         outlets,
     } = left;
-    let is_amiss = fault != StageFault::NoMemory || !has_refused;
+    let is_amiss = (fault != StageFault::NoMemory) | !has_refused;
     let again = desk.settle(rt, alloc, intakes, outlets).ok();
     answered(again.as_ref(), is_amiss, Turn::Refused)
 }
@@ -99,23 +59,21 @@ fn settles_of<A: Allocator + Copy, S: Site, R: Wait>(
 ) -> Result<Turn, Fail>
     requires { stage ≡ S.stage }
 {
-    let (ins, mut outs, desk) = stage.ends::<S>(alloc, 1, 1)?;
-    let intakes = put_two(rt, alloc, ins).ok();
-    let has_first = takes_first(rt, outs.as_mut_slice());
-    let homes = intakes.zip(outlet_home(alloc, outs).ok());
-    let (intakes, outlets) = homes.ok_or("the ends at home")?;
+    let (mut ins, mut outs, desk) = stage.ends::<S>(alloc, 1, 1)?;
+    let first = put_two_and_take(rt, ins.as_mut_slice(), outs.as_mut_slice());
+    let (intakes, outlets) = (intakes_home(alloc, ins), outlets_home(alloc, outs));
     let turn = turn_of(rt, heap, alloc, desk, intakes, outlets, refused);
-    if has_first {
+    if first == Some(0) {
         Ok(turn)
     } else {
         Err("the first job".into())
     }
 }
 
-/// This turn, where nothing is amiss and the answer is the right one.
+/// This turn, where nothing is amiss and the answer is the right one: two jobs were put, one was taken, and the second was left.
 fn answered<A: Allocator>(settled: Option<&Settled<A>>, is_amiss: bool, turn: Turn) -> Turn {
     match settled {
-        Some(settled) if !is_amiss && is_right(settled) => turn,
+        Some(settled) if !is_amiss && is_settled_so(settled, 2, 1, &[1]) => turn,
         _ => Turn::Wrong,
     }
 }

@@ -8,7 +8,7 @@ mod batches;
 mod fakes;
 mod jobs;
 mod ways_out;
-mod worked;
+pub(crate) mod worked;
 
 use crate::threads::hub::are_lines;
 use crate::threads::stage::put_some;
@@ -25,7 +25,7 @@ use gn_rules::{Event, Historian, RouterCore};
 use gn_shake::Role;
 use gn_stage::{Intake, Outlet, Site, Stage};
 use gn_table_router::TableRouter;
-use std::alloc::Allocator;
+use std::alloc::{Allocator, Global};
 use std::marker::Brand;
 use std::sync::Wait;
 use std::sync::ledger::Ledger;
@@ -59,9 +59,8 @@ fn actors_of<A: Allocator + Copy, L: Ledger + Named>(
     actors: Vec<Actor<L, A>, A>,
 ) -> Option<Actors<L, A>>
     requires { All (λ actor. actor.receipts ≡ []) actors.items }
-    ensures reader { IfSome result (λ all. all.reader.receipts ≡ []) }
-    ensures writer { IfSome result (λ all. all.writer.receipts ≡ []) }
-    ensures worker { IfSome result (λ all. all.worker.receipts ≡ []) }
+    ensures { IfSome result (λ all. (all.reader.receipts ≡ []) × (all.writer.receipts ≡ [])
+        × (all.worker.receipts ≡ [])) }
 {
     let mut actors = actors;
     let worker = last_actor(&mut actors);
@@ -178,6 +177,16 @@ fn end_refusals(refused: Option<(&Heap, Refused)>) -> bool {
     }
 }
 
+/// How many steps the history of a hub has, and whether they have these lines.
+fn looked_at<A, C, L: Ledger + Named>(alloc: A, hub: Hub<C, L, A>, wanted: &str) -> (usize, bool)
+where
+    A: Allocator + Copy,
+    C: Historian<A> + Drop,
+{
+    let history = hub.into_router().into_history();
+    (history.len(), are_lines(alloc, history.as_slice(), wanted))
+}
+
 /// What a gate and a hub know once all bodies have returned, with how those ended and whether the writer wrote what it was
 /// to. A job that passed the gate is a step, but for one whose worker was refused the route.
 fn what_ran<A, C, L: Ledger + Named>(
@@ -194,19 +203,16 @@ where
     C: Historian<A> + Drop,
 {
     let (door, is_closing, has_failed) = (hub.door(0), hub.closing(), hub.failed());
-    let history = hub.into_router().into_history();
-    let has_lines = are_lines(alloc, history.as_slice(), wanted);
+    let (length, has_lines) = looked_at(alloc, hub, wanted);
+    let refused_steps = ends.1.is_err() as usize;
     Ran {
         ends,
-        steps: gate
-            .count
-            .get()
-            .wrapping_sub(if ends.1.is_err() { 1 } else { 0 }),
+        steps: gate.count.get().wrapping_sub(refused_steps),
         passed: gate.last.get(),
         told: gate.told.get(),
         ended: gate.ended.get(),
         is_written,
-        length: history.len(),
+        length,
         has_lines,
         door,
         is_closing,
@@ -250,10 +256,10 @@ where
     C: RouterCore<A> + Drop,
     requires { caller.receipts ≡ [] }
 {
-    let Some(outlet) = outlet else {
-        return Ok(());
-    };
-    worker_body(caller, WorkerTask { batch, outlet }).end
+    match outlet {
+        Some(outlet) => worker_body(caller, WorkerTask { batch, outlet }).end,
+        None => Ok(()),
+    }
 }
 
 /// The reader, the worker, where there is one, and the writer of one link, one after the other: how they end, and the half of
@@ -274,9 +280,7 @@ fn in_turn<A, C, B: Site + Ledger + Named, Rd: LinkReader, W: LinkWriter, R: Wai
 where
     A: Allocator + Copy,
     C: Historian<A> + Drop,
-    requires reading { actors.reader.receipts ≡ [] }
-    requires writing { actors.writer.receipts ≡ [] }
-    requires working { actors.worker.receipts ≡ [] }
+    requires calls { (actors.reader.receipts ≡ []) × (actors.writer.receipts ≡ []) × (actors.worker.receipts ≡ []) }
     requires reader { IsNewReader (Rd.state reader) }
     requires writer { IsNewWriter (W.state writer) }
 {
@@ -312,7 +316,7 @@ where
 }
 
 /// The last of these; the others are dropped.
-pub(crate) fn last_of<T: Drop, A: Allocator>(mut all: Vec<T, A>) -> Option<T> {
+fn last_of<T: Drop, A: Allocator>(mut all: Vec<T, A>) -> Option<T> {
     all.pop()
 }
 
@@ -388,9 +392,8 @@ where
     C: Historian<A> + Drop,
     requires name { (unopened.blank.name ≡ L.name) × (unopened.steps.name ≡ L.growing) }
     requires parts { (unopened.blank.parts ≡ L.parts) × (unopened.blank.parts ≡ 4) }
-    ensures reader { IfSome result (λ r. r.1.reader.receipts ≡ []) }
-    ensures writer { IfSome result (λ r. r.1.writer.receipts ≡ []) }
-    ensures worker { IfSome result (λ r. r.1.worker.receipts ≡ []) }
+    ensures { IfSome result (λ r. (r.1.reader.receipts ≡ []) × (r.1.writer.receipts ≡ [])
+        × (r.1.worker.receipts ≡ [])) }
 {
     let made = crate::threads::hub::service_of::<A, C, L>(alloc, unopened, setting.steps, &[role]);
     let Ok((service, mut actors)) = made else {
@@ -416,9 +419,7 @@ where
     A: Allocator + Copy,
     B: Allocator + Copy,
     C: Historian<A> + Drop,
-    requires reading { actors.reader.receipts ≡ [] }
-    requires writing { actors.writer.receipts ≡ [] }
-    requires working { actors.worker.receipts ≡ [] }
+    requires calls { (actors.reader.receipts ≡ []) × (actors.writer.receipts ≡ []) × (actors.worker.receipts ≡ []) }
 {
     let role = link.role();
     let (reader, writer) = link.split().ok()?;
@@ -478,4 +479,15 @@ pub(crate) fn run_link<A: Allocator + Copy, B: Allocator + Copy, R: Wait>(
     let unopened = Unopened::new(4);
     let ran = in_stage::<A, B, TableRouter<A>, Brand, R>(rt, alloc, unopened, stage, setting, link);
     Ok(ran.ok_or("the bodies of a link")?)
+}
+
+/// The bodies of a plain link that gives these bytes, over a memory without limit.
+fn run_plain<R: Wait>(
+    rt: &R,
+    alloc: Global,
+    setting: Setting<'_>,
+    bytes: &[u8],
+) -> Result<Ran, Fail> {
+    let link = MemoryLink::new(Role::Plain, bytes.to_vec(alloc)?, 4096);
+    run_link(rt, alloc, setting, link)
 }

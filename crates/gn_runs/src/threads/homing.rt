@@ -5,6 +5,7 @@
 ghost use Rattle.std.specs.Prelude.{◌≡◌, ◌≤◌, ◌^◌, [], IfSome, IsTrue};
 ghost use Rattle.gn_actors.specs.Registry.{registry_state};
 
+use crate::threads::hub::is_answer;
 use crate::threads::slots::core_of;
 use gn_actors::{Named, Registry, Unopened};
 use gn_hub::{Actor, Batch, Hub, Outgoing, Retiring, Role, Service};
@@ -49,12 +50,9 @@ fn met<A: Allocator + Copy, C: Historian<A> + Drop, L: Ledger + Named, R: Wait>(
     service: &Service<C, L, A>,
     reader: &mut Actor<L, A>,
 ) -> Option<ConnId> {
-    if !service.take_slot(rt, 0, Role::Plain) {
-        return None;
-    }
-    let receipt = service.connect(rt, reader, 0).ok()?;
-    drop(receipt);
-    service.meet(rt, 0)
+    let has_come = service.take_slot(rt, 0, Role::Plain)
+        && is_answer(service.connect(rt, reader, 0));
+    if has_come { service.meet(rt, 0) } else { None }
 }
 
 /// The link's writer drains the connection, which says that nothing was in flight: no more links come, and its reader is
@@ -167,7 +165,7 @@ fn connects_and_returns<A: Allocator + Copy, C: RouterCore<A>, L: Ledger + Named
 {
     registry.grow(1);
     let mut me = registry.send(0);
-    let has_connected = hub.connect(&mut me, 0).is_ok();
+    let has_connected = is_answer(hub.connect(&mut me, 0));
     if me.number() != 0 {
         return false;
     }

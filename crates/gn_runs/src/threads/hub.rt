@@ -9,11 +9,11 @@ ghost use Rattle.std.specs.Prelude.{◌≡◌, ◌+◌, ◌*◌, ◌≤◌, leng
 ghost use Rattle.gn_hub.specs.ActorState.{AreNew};
 ghost use Rattle.gn_rules.specs.Limits.{most_links};
 
+use crate::threads::place::{Made, Place, passed_on};
 use gn_actors::{Named, Unopened};
-use gn_fixtures::{ping, usual};
+use gn_fixtures::usual;
 use gn_hub::{Actor, Hub, Next, Role, Service, ServiceFault};
-use gn_payload::Checked;
-use gn_rules::{ConnId, Event, Historian, Receipt, Refusal, RouterCore, Step, Ticket, is_step_of};
+use gn_rules::{ConnId, Historian, Receipt, Refusal, RouterCore, Step, Ticket, is_step_of};
 use gn_search::PlainRouter;
 use gn_text::push_step;
 use std::alloc::{AllocError, Allocator};
@@ -104,15 +104,18 @@ impl<L: Ledger + Named, A: Allocator> Caller<L, A> {
     pub(crate) fn has_receipts(&self, count: usize, history: &[Step<A>]) -> bool {
         let me = self.me.number();
         for receipt in &self.receipts {
-            let Some(step) = history.get(receipt.index as usize) else {
-                return false;
-            };
-            if !is_step_of(step, me, receipt) {
-                return false;
+            match history.get(receipt.index as usize) {
+                Some(step) if is_step_of(step, me, receipt) => {}
+                _ => return false,
             }
         }
         self.receipts.len() == count
     }
+}
+
+/// Whether a call is answered, whose answer is let go.
+pub(crate) fn is_answer<T: Drop, E: Drop>(answer: Result<T, E>) -> bool {
+    answer.is_ok()
 }
 
 /// Callers that have called nothing, of these actors.
@@ -130,46 +133,26 @@ pub(crate) fn callers_of<L: Ledger + Named, A: Allocator + Copy>(
     Ok(callers)
 }
 
-/// Whether a Ping is admitted.
-fn admits<A: Allocator + Copy, C: RouterCore<A>, L: Ledger + Named>(
-    hub: &mut Hub<C, L, A>,
+/// Makes a call with the Ping whose ID repeats this byte, and keeps its receipt.
+pub(crate) fn make<A: Allocator + Copy, L: Ledger + Named, P: Place<L, A>>(
+    place: &mut P,
     caller: &mut Caller<L, A>,
+    made: Made,
     byte: u8,
-) -> bool {
-    let Ok(ping) = ping(byte, 7, 0) else {
-        return false;
-    };
-    let event = Event::Admit(1, ping);
-    let answer = hub.call(&mut caller.me, &event);
-    drop(event);
-    caller.keep(answer).is_ok()
-}
-
-/// Whether the route of a Ping is answered so.
-fn is_routed<A: Allocator + Copy, C: RouterCore<A>, L: Ledger + Named>(
-    hub: &mut Hub<C, L, A>,
-    caller: &mut Caller<L, A>,
-    ticket: Ticket,
-    byte: u8,
-    wanted: Result<(), Refusal>,
-) -> bool {
-    let Ok(ping) = ping(byte, 7, 0) else {
-        return false;
-    };
-    let checked = Checked::new(ping);
-    let answer = hub.route(&mut caller.me, ticket, &checked);
-    drop(checked);
-    caller.keep(answer) == wanted
+) -> Result<(), Refusal> {
+    let passed = passed_on(byte).ok_or(Refusal::NotLive)?;
+    let answer = place.make(&mut caller.me, made, &passed);
+    drop(passed);
+    caller.keep(answer)
 }
 
 /// Whether the Connect of this link's reader is answered.
-fn connects<A: Allocator + Copy, C: RouterCore<A>, L: Ledger + Named>(
-    hub: &mut Hub<C, L, A>,
+pub(crate) fn connects<A: Allocator + Copy, L: Ledger + Named, P: Place<L, A>>(
+    place: &mut P,
     caller: &mut Caller<L, A>,
     link: u32,
 ) -> bool {
-    let answer = hub.connect(&mut caller.me, link);
-    caller.keep(answer).is_ok() && caller.me.number() == link
+    make(place, caller, Made::Connects(link), 0).is_ok() && caller.me.number() == link
 }
 
 /// Makes a call: whether its answer is the wanted one.
@@ -180,8 +163,10 @@ fn is_answered<A: Allocator + Copy, C: RouterCore<A>, L: Ledger + Named>(
 ) -> bool {
     match call {
         Call::Connects(link) => connects(hub, caller, link),
-        Call::Admits(byte) => admits(hub, caller, byte),
-        Call::Routes(ticket, byte, wanted) => is_routed(hub, caller, ticket, byte, wanted),
+        Call::Admits(byte) => make(hub, caller, Made::Admits, byte).is_ok(),
+        Call::Routes(ticket, byte, wanted) => {
+            make(hub, caller, Made::Routes(ticket), byte) == wanted
+        }
         Call::Next(c, next) => {
             let Caller { me, receipts } = caller;
             hub.next_out(me, c, receipts) == Ok(next)
@@ -208,21 +193,18 @@ pub(crate) fn have_receipts<A: Allocator, L: Ledger + Named>(
     callers.len() == counts.len()
 }
 
-/// The lines of these steps.
-fn lines_of<A: Allocator + Copy>(alloc: A, steps: &[Step<A>]) -> Result<Vec<u8, A>, AllocError> {
-    let mut lines = Vec::new(alloc);
+/// Appends the lines of these steps.
+fn push_lines<A: Allocator>(lines: &mut Vec<u8, A>, steps: &[Step<A>]) -> Result<(), AllocError> {
     for step in steps {
-        push_step(&mut lines, step)?;
+        push_step(lines, step)?;
     }
-    Ok(lines)
+    Ok(())
 }
 
 /// Whether these are the lines of these steps.
 pub(crate) fn are_lines<A: Allocator + Copy>(alloc: A, steps: &[Step<A>], wanted: &str) -> bool {
-    match lines_of(alloc, steps) {
-        Ok(lines) => lines.as_slice() == wanted.as_bytes(),
-        Err(_) => false,
-    }
+    let mut lines = Vec::new(alloc);
+    push_lines(&mut lines, steps).is_ok() && lines.as_slice() == wanted.as_bytes()
 }
 
 /// Makes all calls: whether each answer was the wanted one.

@@ -95,14 +95,17 @@ fn receipts_of<Rd, W>(report: &Report<Rd, W>) -> usize {
     count
 }
 
+/// Whether a run has two workers of 300 receipts each, and each step its receipt.
+fn is_shared<Rd: Drop, W: Drop>(report: Report<Rd, W>) -> bool {
+    are_even(&report) & (receipts_of(&report) == report.history.len())
+}
+
 /// Fails unless a run of six links of a hundred Pings has two workers of 300 receipts each who meet at each route, and each
 /// step its receipt.
 fn share<R: Threads + Wait + Sync + Abort>(rt: &R, alloc: Global) -> Result<(), Fail> {
     let meeting = Meeting::new();
     let links = plain_links(alloc, 6, 100)?;
-    let report = a_report(table_run(rt, alloc, links, 2, &meeting))?;
-    let is_shared = are_even(&report) & (receipts_of(&report) == report.history.len());
-    drop(report);
+    let is_shared = is_shared(a_report(table_run(rt, alloc, links, 2, &meeting))?);
     assert!(rt; is_shared && have_met(&meeting, 300));
     Ok(())
 }
@@ -113,7 +116,7 @@ fn two_workers_meet(rt: HostRuntime) -> Result<(), Fail> {
 }
 
 /// How the writers of two links ended.
-fn writer_ends<Rd, W>(report: &Report<Rd, W>) -> Option<(WriterEnd, WriterEnd)> {
+fn writer_ends<Rd: Drop, W: Drop>(report: Report<Rd, W>) -> Option<(WriterEnd, WriterEnd)> {
     match report.links.as_slice() {
         [first, second] => Some((first.writer_end, second.writer_end)),
         _ => None,
@@ -130,9 +133,7 @@ fn half_broken(alloc: Global) -> Result<Vec<MemoryLink>, AllocError> {
 /// Fails unless a write fails on the first of them alone.
 fn break_first<R: Threads + Wait + Sync + Abort>(rt: &R, alloc: Global) -> Result<(), Fail> {
     let links = half_broken(alloc)?;
-    let report = a_report(table_run(rt, alloc, links, 1, &NoGate))?;
-    let ends = writer_ends(&report);
-    drop(report);
+    let ends = writer_ends(a_report(table_run(rt, alloc, links, 1, &NoGate))?);
     assert_eq!(rt; ends, Some((WriterEnd::WriteFailed, WriterEnd::Drained)));
     Ok(())
 }

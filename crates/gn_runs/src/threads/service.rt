@@ -2,13 +2,14 @@
 
 ghost use Rattle.std.specs.Prelude.{◌≡◌, ◌+◌};
 
-use crate::threads::hub::{Caller, callers_of, have_receipts, service_of};
+use crate::threads::hub::{Caller, callers_of, connects, have_receipts, make, service_of};
+use crate::threads::place::{Locked, Made, Place, next};
 use crate::threads::slots::open_of;
 use gn_actors::{Named, Unopened};
 use gn_fixtures::{ping, usual};
-use gn_hub::{Batch, Outgoing, Role, Service};
+use gn_hub::{Outgoing, Role, Service};
 use gn_payload::Checked;
-use gn_rules::{ConnId, Event, Historian, Legality, Refusal, Step};
+use gn_rules::{Event, Historian, Legality, Step};
 use gn_search::PlainRouter;
 use gn_witness::legal;
 use std::alloc::Allocator;
@@ -20,7 +21,7 @@ use std::thread;
 use std::thread::Threads;
 
 /// Makes 50 Connect calls.
-fn connects<A: Allocator + Copy, C: Historian<A> + Drop, L: Ledger + Named, R: Wait>(
+fn connect_often<A: Allocator + Copy, C: Historian<A> + Drop, L: Ledger + Named, R: Wait>(
     rt: &R,
     service: &Service<C, L, A>,
     caller: &mut Caller<L, A>,
@@ -40,7 +41,7 @@ fn both_connect<
     L: Ledger + Named + Send + Sync,
     R: Threads + Wait + Sync,
 >(rt: &R, service: &Service<C, L, A>, callers: &mut [Caller<L, A>]) {
-    let connect = |_: usize, caller: &mut Caller<L, A>| connects(rt, service, caller);
+    let connect = |_: usize, caller: &mut Caller<L, A>| connect_often(rt, service, caller);
     thread::for_each_mut(rt, callers, 2, &connect);
 }
 
@@ -108,17 +109,6 @@ fn two_threads_connect(rt: HostRuntime) -> Result<(), Fail> {
     Ok(())
 }
 
-/// The next that a writer takes, one packet at most.
-fn next<A: Allocator + Copy, C: Historian<A> + Drop, L: Ledger + Named, R: Wait>(
-    rt: &R,
-    service: &Service<C, L, A>,
-    writer: &mut Caller<L, A>,
-    c: ConnId,
-) -> Result<Outgoing, Refusal> {
-    let Caller { me, receipts } = writer;
-    service.next_batch(rt, me, c, Batch::one(), receipts, &mut None)
-}
-
 /// A writer's part: waits for its door, then takes packets until the connection is over. How many receipts it got of them.
 fn takes<A: Allocator + Copy, C: Historian<A> + Drop, L: Ledger + Named, R: Wait>(
     rt: &R,
@@ -128,7 +118,7 @@ fn takes<A: Allocator + Copy, C: Historian<A> + Drop, L: Ledger + Named, R: Wait
     let c = service.meet(rt, 0)?;
     let mut taken = 0usize;
     for _ in rt.forever() {
-        match next(rt, service, writer, c) {
+        match next(rt, service, &mut writer.me, c, &mut writer.receipts) {
             Ok(Outgoing::Packet) => taken = taken.saturating_add(writer.receipts.len()),
             Ok(_) => break,
             Err(_) => return None,
@@ -137,61 +127,21 @@ fn takes<A: Allocator + Copy, C: Historian<A> + Drop, L: Ledger + Named, R: Wait
     Some(taken)
 }
 
-/// Connects the first link: whether that is answered, and its reader did it.
-fn connect<A: Allocator + Copy, C: Historian<A> + Drop, L: Ledger + Named, R: Wait>(
-    rt: &R,
-    service: &Service<C, L, A>,
-    reader: &mut Caller<L, A>,
-) -> bool {
-    let answer = service.connect(rt, &mut reader.me, 0);
-    reader.keep(answer).is_ok() && reader.me.number() == 0
-}
-
-/// Whether the Ping of this number is admitted.
-fn admit<A: Allocator + Copy, C: Historian<A> + Drop, L: Ledger + Named, R: Wait>(
-    rt: &R,
-    service: &Service<C, L, A>,
-    reader: &mut Caller<L, A>,
-    number: u8,
-) -> bool {
-    let Ok(ping) = ping(number, 7, 0) else {
-        return false;
-    };
-    let event = Event::Admit(1, ping);
-    let answer = service.call(rt, &mut reader.me, &event);
-    drop(event);
-    reader.keep(answer).is_ok()
-}
-
-/// Whether the Ping of this number is routed.
-fn route<A: Allocator + Copy, C: Historian<A> + Drop, L: Ledger + Named, R: Wait>(
-    rt: &R,
-    service: &Service<C, L, A>,
-    worker: &mut Caller<L, A>,
-    number: u8,
-) -> bool {
-    let Ok(ping) = ping(number, 7, 0) else {
-        return false;
-    };
-    let checked = Checked::new(ping);
-    let answer = service.route(rt, &mut worker.me, u32::from(number), &checked);
-    drop(checked);
-    worker.keep(answer).is_ok()
-}
-
 /// Connects, and admits and routes so many Pings: whether each call is answered.
-fn send<A: Allocator + Copy, C: Historian<A> + Drop, L: Ledger + Named, R: Wait>(
-    rt: &R,
-    service: &Service<C, L, A>,
+fn send<A: Allocator + Copy, L: Ledger + Named, P: Place<L, A>>(
+    place: &mut P,
     reader: &mut Caller<L, A>,
     worker: &mut Caller<L, A>,
     count: u8,
 ) -> bool {
-    if !connect(rt, service, reader) {
+    if !connects(place, reader, 0) {
         return false;
     }
     for number in 0..count {
-        if !admit(rt, service, reader, number) || !route(rt, service, worker, number) {
+        let ticket = u32::from(number);
+        if make(place, reader, Made::Admits, number).is_err()
+            || make(place, worker, Made::Routes(ticket), number).is_err()
+        {
             return false;
         }
     }
@@ -205,7 +155,7 @@ fn pings<A: Allocator + Copy, C: Historian<A> + Drop, L: Ledger + Named, R: Wait
     reader: &mut Caller<L, A>,
     worker: &mut Caller<L, A>,
 ) -> bool {
-    let sent = send(rt, service, reader, worker, 8);
+    let sent = send(&mut Locked { rt, service }, reader, worker, 8);
     service.reader_done(rt, 0);
     sent
 }
@@ -293,7 +243,7 @@ fn are_at_once<A: Allocator + Copy, C: Historian<A> + Drop, L: Ledger + Named, R
     caller: &mut Caller<L, A>,
 ) -> bool {
     let given = connect_at_once(rt, service, caller);
-    let _ = admit(rt, service, caller, 0);
+    let _ = make(&mut Locked { rt, service }, caller, Made::Admits, 0);
     given == 1 && route_at_once(rt, service, caller) == 3
 }
 

@@ -4,6 +4,7 @@
 
 ghost use Rattle.std.specs.Prelude.{◌≡◌, [], IfSome};
 
+use crate::threads::hub::is_answer;
 use gn_actors::{Named, Unopened};
 use gn_fixtures::usual;
 use gn_hub::{Actor, Door, Hub, Role, Service};
@@ -47,8 +48,7 @@ fn is_met<A: Allocator + Copy, C: Historian<A> + Drop, L: Ledger + Named, R: Wai
     service: &Service<C, L, A>,
     reader: &mut Actor<L, A>,
 ) -> bool {
-    let has_connected = service.connect(rt, reader, 0).is_ok();
-    has_connected && service.meet(rt, 0) == Some(1)
+    is_answer(service.connect(rt, reader, 0)) && service.meet(rt, 0) == Some(1)
 }
 
 /// Whether links come to the lock as they may: to a slot that is free, another to it once the reader of the first is done, and none

@@ -2,6 +2,7 @@
 
 ghost use Rattle.std.specs.Prelude.{◌≡◌, ◌+◌, ◌-◌, ◌^◌, ◌<◌, true, IfOk};
 
+use crate::threads::hub::is_answer;
 use gn_fixtures::ping;
 use gn_stage::*;
 use std::alloc::{AllocError, Allocator, Global};
@@ -23,13 +24,10 @@ fn job<A: Allocator>(ticket: u32) -> Result<Job<A>, AllocError> {
 
 /// Whether a job of this ticket is put.
 fn is_put<A: Allocator, S: Site, R: Wait>(rt: &R, intake: &mut Intake<S, A>, ticket: u32) -> bool {
-    let Ok(job) = job(ticket) else {
-        return false;
-    };
-    let answer = intake.put(rt, job);
-    let is_put = answer.is_ok();
-    drop(answer);
-    is_put
+    match job(ticket) {
+        Ok(job) => is_answer(intake.put(rt, job)),
+        Err(_) => false,
+    }
 }
 
 /// Puts so many jobs, until one can't be.
@@ -55,7 +53,10 @@ pub(crate) fn ticket_of<A: Allocator>(job: Option<Job<A>>) -> Option<u32> {
 }
 
 /// These intakes at home, as many as there is memory for.
-fn intakes_home<S: Site>(alloc: Global, intakes: Vec<Intake<S>>) -> Vec<IntakeHome<S>> {
+pub(crate) fn intakes_home<A: Allocator + Copy, S: Site>(
+    alloc: A,
+    intakes: Vec<Intake<S, A>, A>,
+) -> Vec<IntakeHome<S, A>, A> {
     let mut homes = Vec::new(alloc);
     for intake in intakes {
         let _ = homes.push(intake.finish());
@@ -64,7 +65,10 @@ fn intakes_home<S: Site>(alloc: Global, intakes: Vec<Intake<S>>) -> Vec<IntakeHo
 }
 
 /// These outlets at home, as many as there is memory for.
-fn outlets_home<S: Site>(alloc: Global, outlets: Vec<Outlet<S>>) -> Vec<OutletHome<S>> {
+pub(crate) fn outlets_home<A: Allocator + Copy, S: Site>(
+    alloc: A,
+    outlets: Vec<Outlet<S, A>, A>,
+) -> Vec<OutletHome<S, A>, A> {
     let mut homes = Vec::new(alloc);
     for outlet in outlets {
         let _ = homes.push(outlet.finish());
@@ -73,7 +77,7 @@ fn outlets_home<S: Site>(alloc: Global, outlets: Vec<Outlet<S>>) -> Vec<OutletHo
 }
 
 /// Whether the jobs that are left have these tickets, in order.
-fn are_left(jobs: &[Job], tickets: &[u32]) -> bool {
+fn are_left<A: Allocator>(jobs: &[Job<A>], tickets: &[u32]) -> bool {
     for (i, job) in jobs.iter().enumerate() {
         if tickets.get(i) != Some(&job.ticket) {
             return false;
@@ -83,22 +87,35 @@ fn are_left(jobs: &[Job], tickets: &[u32]) -> bool {
 }
 
 /// Whether so many jobs were put and taken, and those of these tickets are left.
-fn is_settled_so(settled: &Settled, put: u64, taken: u64, tickets: &[u32]) -> bool {
+pub(crate) fn is_settled_so<A: Allocator>(
+    settled: &Settled<A>,
+    put: u64,
+    taken: u64,
+    tickets: &[u32],
+) -> bool {
     settled.put == put && settled.taken == taken && are_left(settled.drained.as_slice(), tickets)
 }
 
+/// Whether a stage is settled so, with what comes back where it isn't.
+fn is_settled<E: Drop>(answer: Result<Settled, E>, put: u64, taken: u64, tickets: &[u32]) -> bool {
+    match &answer {
+        Ok(settled) => is_settled_so(settled, put, taken, tickets),
+        Err(_) => false,
+    }
+}
+
 /// The first intake puts so many jobs.
-fn put_by_first<S: Site, R: Wait>(rt: &R, intakes: &mut [Intake<S>], count: u32) {
+fn put_by_first<A: Allocator, S: Site, R: Wait>(rt: &R, intakes: &mut [Intake<S, A>], count: u32) {
     if let Some(intake) = intakes.first_mut() {
         put_some(rt, intake, 0, count);
     }
 }
 
 /// The first intake puts two jobs: what ticket the first outlet takes.
-fn put_two_and_take<S: Site, R: Wait>(
+pub(crate) fn put_two_and_take<A: Allocator, S: Site, R: Wait>(
     rt: &R,
-    intakes: &mut [Intake<S>],
-    outlets: &mut [Outlet<S>],
+    intakes: &mut [Intake<S, A>],
+    outlets: &mut [Outlet<S, A>],
 ) -> Option<u32> {
     put_by_first(rt, intakes, 2);
     ticket_of(outlets.first_mut()?.take(rt))
@@ -109,7 +126,7 @@ fn is_settled_again<S: Site, R: Wait>(
     rt: &R,
     alloc: Global,
     back: Unsettled<S>,
-    late: Option<IntakeHome<S>>,
+    late: IntakeHome<S>,
 ) -> bool {
     let Unsettled {
         fault,
@@ -117,16 +134,9 @@ fn is_settled_again<S: Site, R: Wait>(
         mut intakes,
         outlets,
     } = back;
-    if let Some(late) = late {
-        let _ = intakes.push(late);
-    }
-    match desk.settle(rt, alloc, intakes, outlets) {
-        Ok(settled) => fault == StageFault::Missing && is_settled_so(&settled, 2, 1, &[1]),
-        Err(back) => {
-            drop(back);
-            false
-        }
-    }
+    let _ = intakes.push(late);
+    let is_settled = is_settled(desk.settle(rt, alloc, intakes, outlets), 2, 1, &[1]);
+    is_settled && fault == StageFault::Missing
 }
 
 /// Whether a stage misses the last of these intakes, and is settled once that has come home, too.
@@ -138,13 +148,10 @@ fn is_settled_late<S: Site, R: Wait>(
     outlets: Vec<OutletHome<S>>,
 ) -> bool {
     let late = intakes.pop();
-    match desk.settle(rt, alloc, intakes, outlets) {
-        Ok(settled) => {
-            drop(settled);
-            drop(late);
-            false
-        }
-        Err(back) => is_settled_again(rt, alloc, back, late),
+    let back = desk.settle(rt, alloc, intakes, outlets).err();
+    match back.zip(late) {
+        Some((back, late)) => is_settled_again(rt, alloc, back, late),
+        None => false,
     }
 }
 
@@ -252,21 +259,11 @@ fn counts_of(settled: &Settled, seen: &[AtomicU32]) -> Counts {
     (settled.put, settled.taken, settled.drained.len())
 }
 
-/// What is settled of a stage whose ends came home, where nothing is missing.
-fn settled_counts<S: Site, R: Wait>(
-    rt: &R,
-    alloc: Global,
-    desk: Desk<S>,
-    intakes: Vec<IntakeHome<S>>,
-    outlets: Vec<OutletHome<S>>,
-    seen: &[AtomicU32],
-) -> Option<Counts> {
-    match desk.settle(rt, alloc, intakes, outlets) {
-        Ok(settled) => Some(counts_of(&settled, seen)),
-        Err(back) => {
-            drop(back);
-            None
-        }
+/// What is settled of a stage, where nothing is missing.
+fn settled_counts<E: Drop>(answer: Result<Settled, E>, seen: &[AtomicU32]) -> Option<Counts> {
+    match &answer {
+        Ok(settled) => Some(counts_of(settled, seen)),
+        Err(_) => None,
     }
 }
 
@@ -351,7 +348,7 @@ fn many_threads<S: Site + Send, R: Threads + Wait + Sync>(
         move || all_take(rt, outlets, seen),
     );
     let (intakes, outlets) = intakes.ok().zip(outlets.ok()).ok_or(AllocError)?;
-    Ok(settled_counts(rt, alloc, desk, intakes, outlets, seen))
+    Ok(settled_counts(desk.settle(rt, alloc, intakes, outlets), seen))
 }
 
 /// That run, with the stage's mark made here.
@@ -482,13 +479,8 @@ fn is_drained_again<S: Site, R: Wait>(
         outlets,
     } = back;
     reception.take_home(late);
-    match reception.drain(rt, alloc, outlets) {
-        Ok(settled) => fault == StageFault::Missing && is_settled_so(&settled, 4, 1, &[1, 2, 3]),
-        Err(back) => {
-            drop(back);
-            false
-        }
-    }
+    let is_settled = is_settled(reception.drain(rt, alloc, outlets), 4, 1, &[1, 2, 3]);
+    is_settled && fault == StageFault::Missing
 }
 
 /// Whether a stage misses this intake, and is drained once that has come home.
@@ -499,13 +491,9 @@ fn is_drained_late<S: Site, R: Wait>(
     outlets: Vec<OutletHome<S>>,
     late: IntakeHome<S>,
 ) -> bool {
-    match reception.drain(rt, alloc, outlets) {
-        Ok(settled) => {
-            drop(settled);
-            drop(late);
-            false
-        }
-        Err(back) => is_drained_again(rt, alloc, back, late),
+    match reception.drain(rt, alloc, outlets).err() {
+        Some(back) => is_drained_again(rt, alloc, back, late),
+        None => false,
     }
 }
 
@@ -604,13 +592,8 @@ fn many_come_and_go<S: Site, R: Wait>(
 {
     let (mut outlets, mut reception) = stage.open::<S>(alloc, 1)?;
     let is_over = comes_to_an_end(rt, &mut reception, outlets.as_mut_slice(), 500);
-    match reception.drain(rt, alloc, outlets_home(alloc, outlets)) {
-        Ok(settled) => Ok(is_over && is_settled_so(&settled, 1000, 1000, &[])),
-        Err(back) => {
-            drop(back);
-            Ok(false)
-        }
-    }
+    let answer = reception.drain(rt, alloc, outlets_home(alloc, outlets));
+    Ok(is_settled(answer, 1000, 1000, &[]) && is_over)
 }
 
 /// That run, with the stage's mark made here.

@@ -58,7 +58,7 @@ fn broken_link(alloc: Global) -> Result<MemoryLink, AllocError> {
 
 /// Whether the last link of a run ended so that its writer couldn't write and its reader found a fault, and one connection
 /// was closed.
-fn ended_so<Rd, W>(report: &Report<Rd, W>) -> bool {
+fn ended_so<Rd: Drop, W: Drop>(report: Report<Rd, W>) -> bool {
     let fault = FrameFault::FixedLength(Kind::Ping, 1);
     let ended = match report.links.last() {
         Some(link) => {
@@ -75,8 +75,8 @@ fn is_told_once<R: Threads + Wait + Sync>(rt: &R, alloc: Global) -> Result<bool,
         closed: AtomicU32::new(0),
     };
     let links = vec![in alloc; broken_link(alloc)?]?;
-    let report = a_report(table_run(rt, alloc, links, 1, &gate))?;
-    Ok(ended_so(&report) && gate.closed.load(Ordering::SeqCst) == 1)
+    let ended_so = ended_so(a_report(table_run(rt, alloc, links, 1, &gate))?);
+    Ok(ended_so && gate.closed.load(Ordering::SeqCst) == 1)
 }
 
 /// The writer closes, as its consent can't be written, and the reader, which finds a fault, finds the connection closed.

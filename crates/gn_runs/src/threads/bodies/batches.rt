@@ -1,6 +1,6 @@
 //! Writers that take one packet at a time, and two; and a reader that admits two descriptors at once.
 
-use super::{Ends, Setting, Told, USUAL, run_link};
+use super::{Ends, Setting, Told, USUAL, run_link, run_plain};
 use gn_bodies::{ReaderEnd, WriterEnd};
 use gn_fixtures::OWN_PONG;
 use gn_links::MemoryLink;
@@ -79,8 +79,7 @@ fn read_once<R: Wait + Abort>(rt: &R, alloc: Global) -> Result<(), Fail> {
         batch: 2,
         ..USUAL
     };
-    let link = MemoryLink::new(Role::Plain, PINGS.to_vec(alloc)?, 4096);
-    let ran = run_link(rt, alloc, once, link)?;
+    let ran = run_plain(rt, alloc, once, PINGS)?;
     let closed: Ends = (Ok(ReaderEnd::Turns), Ok(()), Ok(WriterEnd::Closed));
     assert!(rt; ran.ends == closed && ran.told == READ_ONCE);
     Ok(())

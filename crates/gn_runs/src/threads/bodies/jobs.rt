@@ -1,11 +1,9 @@
 //! A job that was never admitted, before one that was.
 
 use super::worked::ONE_PING;
-use super::{Setting, USUAL, run_link};
+use super::{Setting, USUAL, run_plain};
 use gn_bodies::BodyFault;
 use gn_fixtures::PING;
-use gn_links::MemoryLink;
-use gn_shake::Role;
 use std::alloc::Global;
 use std::process::Abort;
 use std::sync::Wait;
@@ -18,8 +16,7 @@ fn pass_over<R: Wait + Abort>(rt: &R, alloc: Global) -> Result<(), Fail> {
         lines: ONE_PING,
         ..USUAL
     };
-    let link = MemoryLink::new(Role::Plain, PING.to_vec(alloc)?, 4096);
-    let ran = run_link(rt, alloc, setting, link)?;
+    let ran = run_plain(rt, alloc, setting, PING)?;
     assert!(rt; ran.ends.1 == Err(BodyFault::Refused));
     assert!(rt; !ran.has_failed && ran.is_closing && ran.has_lines);
     Ok(())

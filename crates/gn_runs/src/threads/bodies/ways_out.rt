@@ -1,7 +1,7 @@
 //! Exits of a body that leave no step: what is shut, and what fails the run. Those that close have their rows with whole runs.
 
 use super::worked::never_opens;
-use super::{Ends, Setting, USUAL, run_link};
+use super::{Ends, Setting, USUAL, run_plain};
 use gn_bodies::{BodyFault, ReaderEnd, WriterEnd};
 use gn_fixtures::PING;
 use gn_links::MemoryLink;
@@ -37,8 +37,7 @@ fn ends_at(steps: u32) -> Ends {
 
 /// Whether they end so, and such a run fails where its steps are too few, and closes.
 fn is_found_at<R: Wait>(rt: &R, alloc: Global, steps: u32) -> Result<bool, Fail> {
-    let link = MemoryLink::new(Role::Plain, PING.to_vec(alloc)?, 4096);
-    let ran = run_link(rt, alloc, Setting { steps, ..USUAL }, link)?;
+    let ran = run_plain(rt, alloc, Setting { steps, ..USUAL }, PING)?;
     Ok(
         ran.ends == ends_at(steps)
             && ran.has_failed == (steps < 5)

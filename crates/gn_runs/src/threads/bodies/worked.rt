@@ -1,12 +1,14 @@
 //! The worked runs of one link.
 
-use super::{Ran, Setting, Told, USUAL, WORKER, run_link};
+ghost use Rattle.std.specs.Prelude.{◌<◌, ◌≤◌};
+
+use super::{Ran, Setting, Told, USUAL, WORKER, run_link, run_plain};
 use gn_bodies::{ReaderEnd, WriterEnd};
 use gn_fixtures::{OWN_PONG, PING};
 use gn_hub::Door;
 use gn_links::MemoryLink;
 use gn_shake::{Role, consent, request};
-use std::alloc::{AllocError, Global};
+use std::alloc::{AllocError, Allocator, Global};
 use std::process::Abort;
 use std::sync::Wait;
 use std::test::Fail;
@@ -57,10 +59,16 @@ fn openings(role: Role) -> (&'static [u8], &'static [u8]) {
     }
 }
 
-/// A link in this role whose peer sends one Ping, of which a read gives 5 bytes at most.
-fn link_of_one_ping(alloc: Global, role: Role) -> Result<MemoryLink, AllocError> {
+/// A link in this role whose peer sends one Ping, of which a read gives so many bytes at most.
+pub(crate) fn link_of_one_ping<A: Allocator + Copy>(
+    alloc: A,
+    role: Role,
+    piece: usize,
+) -> Result<MemoryLink<A>, AllocError>
+    requires { (0 < piece) × (piece ≤ 4096) }
+{
     let bytes = [openings(role).0, PING].concat(alloc)?;
-    Ok(MemoryLink::new(role, bytes, 5))
+    Ok(MemoryLink::new(role, bytes, piece))
 }
 
 /// What a gate is told of such a link.
@@ -82,7 +90,7 @@ fn runs_as_it_must<R: Wait>(rt: &R, alloc: Global, role: Role) -> Result<bool, F
         lines: ONE_PING,
         ..USUAL
     };
-    let ran = run_link(rt, alloc, setting, link_of_one_ping(alloc, role)?)?;
+    let ran = run_link(rt, alloc, setting, link_of_one_ping(alloc, role, 5)?)?;
     Ok(
         has_written(&ran, ReaderEnd::Bytes, WriterEnd::Drained)
             && ran.has_lines
@@ -141,8 +149,7 @@ fn tells<R: Wait>(
     ends: (ReaderEnd, WriterEnd),
     told: &Told,
 ) -> Result<bool, Fail> {
-    let link = MemoryLink::new(Role::Plain, PING.to_vec(alloc)?, 4096);
-    let ran = run_link(rt, alloc, setting, link)?;
+    let ran = run_plain(rt, alloc, setting, PING)?;
     let (reader, writer) = ends;
     Ok(ran.ends == (Ok(reader), Ok(()), Ok(writer)) && ran.told == *told && ran.length == 5)
 }
